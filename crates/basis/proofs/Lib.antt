@@ -1,0 +1,3 @@
+-- Laws of choices, tables and first positions.
+pub mod Choice
+pub mod Table

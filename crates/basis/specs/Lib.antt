@@ -1,0 +1,7 @@
+-- What the definitions of every layer are written with.
+pub mod Choice
+pub mod Table
+pub mod First
+pub mod Numbers
+pub mod Laid
+pub mod Flags

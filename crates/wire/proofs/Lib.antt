@@ -1,0 +1,3 @@
+-- Laws of messages.
+pub mod Whole
+pub mod Complement

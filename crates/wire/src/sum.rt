@@ -1,0 +1,27 @@
+// The checksum of an extended message, as the notes work it: complement the column's sum, and add one.
+ghost use mathlib.Core.Path.{_≡_};
+ghost use mathlib.Core.Bool.{not};
+ghost use lib.ListN.{length};
+ghost use Rattle.wire.specs.Checksum.{sums, exempt};
+
+// Whether Data 14 is what the column from Command 1 through Data 13 asks for.
+pub(crate) fn is_right(message: &[u8]) -> bool
+    requires { ⌜ length (now message) ≡ 23 ⌝ }
+    ensures { λ r. ⌜ r ≡ sums (now (message .entry)) ⌝ }
+{
+    let mut sum: usize = 0;
+    for i in 7..22 {
+        sum += message[i] as usize;
+    }
+    let complement = 255 - sum % 256;
+    (complement + 1) % 256 == message[22] as usize
+}
+
+// Get Properties and Get Database, which the captures send with 00 for a checksum.
+pub(crate) fn is_exempt(message: &[u8]) -> bool
+    requires { ⌜ length (now message) ≡ 23 ⌝ }
+    ensures { λ r. ⌜ r ≡ exempt (now (message .entry)) ⌝ }
+{
+    let one = message[7];
+    ((one == 0x2e) | (one == 0x2f)) & (message[10] == 0)
+}

@@ -1,0 +1,78 @@
+-- "Direct commands, standard".
+use Prim.Native.Nat.{ℕ, _+_, _-_, _*_, _/_, min}
+use mathlib.Core.List.{[], _∷_}
+use lib.Dec.{leb}
+use Rattle.basis.specs.Choice.{choose}
+use Rattle.basis.specs.Table.{among, _⇒_}
+use Rattle.wire.specs.declared.address.Address.{Address}
+use Rattle.wire.specs.declared.command.Codes.{Codes}
+use Rattle.wire.specs.declared.command.Standard.{Standard}
+use Rattle.reply.specs.declared.Sort.{Sort}
+use Rattle.reply.specs.declared.Due.{Due}
+use Rattle.dimmer.specs.declared.state.Identity.{Identity}
+use Rattle.dimmer.specs.declared.state.Module.{Module}
+use Rattle.dimmer.specs.declared.plan.Plan.{Plan}
+use Rattle.dimmer.specs.Module.{withLevel}
+use Rattle.dimmer.specs.Plan.{ack, done, answered, acked, unlisted}
+
+-- level plus 8, at most FF; level minus 8, at least 00
+abbrev pub brighter : ℕ → ℕ
+brighter level = min (level + 8) 0xff
+
+abbrev pub dimmer : ℕ → ℕ
+dimmer level = level - 8
+
+-- the high digit followed by the digit F
+abbrev pub highDigit : ℕ → ℕ
+highDigit two = two / 16 * 16 + 15
+
+-- a level as per cent, and per cent as a level
+abbrev pub percentOf : ℕ → ℕ
+percentOf level = (100 * level + 127) / 255
+
+abbrev pub levelOf : ℕ → ℕ
+levelOf p = (255 * p + 50) / 100
+
+-- category, subcategory and firmware, in the place of an address
+abbrev pub idOf : Identity → Address
+idOf i = record { high = i .category; middle = i .subcategory; low = i .firmware }
+
+module _ (m : Module) (from : Address) (c : Codes) where
+  -- 19 and 1F: Command 2 says what is asked for
+  unfoldable pub statusPlan : Plan
+  statusPlan =
+      among (c .two) (unlisted m Sort.Nak from (c .one))
+      (0x00 ⇒ answered from (m .delta) (m .level) m ∷
+      0x06 ⇒ answered from (m .delta) (percentOf (m .level)) m ∷
+      [])
+
+  unfoldable pub readFlagsPlan : Plan
+  readFlagsPlan =
+      among (c .two) (unlisted m Sort.Nak from (c .one))
+      (0x00 ⇒ answered from (c .one) (m .flags) m ∷
+      0x01 ⇒ answered from (c .one) (m .delta) m ∷
+      [])
+
+  -- 39: Command 2 in 00 to 64
+  unfoldable pub percentPlan : Plan
+  percentPlan = choose (leb (c .two) 0x64) (acked from c (withLevel (levelOf (c .two)) m)) (unlisted m Sort.Nak from (c .one))
+
+  -- what the command does to the module m, and the ACK to its sender: it repeats both commands unless stated
+  abbrev pub standardPlan : Standard → Plan
+  standardPlan Standard.Ping = acked from c m
+  standardPlan Standard.IdRequest = done m (Due.WithId (ack from c) (idOf (m .identity)) (m .identity .revision))
+  standardPlan Standard.EngineVersion = answered from (c .one) 0x02 m
+  standardPlan Standard.On = acked from c (withLevel (c .two) m)
+  standardPlan Standard.OnFast = acked from c (withLevel (c .two) m)
+  standardPlan Standard.Instant = acked from c (withLevel (c .two) m)
+  standardPlan Standard.Off = acked from c (withLevel 0x00 m)
+  standardPlan Standard.OffFast = acked from c (withLevel 0x00 m)
+  standardPlan Standard.Brighten = acked from c (withLevel (brighter (m .level)) m)
+  standardPlan Standard.Dim = acked from c (withLevel (dimmer (m .level)) m)
+  standardPlan Standard.Status = statusPlan
+  standardPlan Standard.ReadFlags = readFlagsPlan
+  standardPlan Standard.OnAtRamp = acked from c (withLevel (highDigit (c .two)) m)
+  standardPlan Standard.OffAtRamp = acked from c (withLevel 0x00 m)
+  standardPlan Standard.Beep = acked from c m
+  standardPlan Standard.Percent = percentPlan
+  standardPlan Standard.Unlisted = unlisted m Sort.Nak from (c .one)

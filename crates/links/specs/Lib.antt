@@ -1,0 +1,6 @@
+-- Link memory, in the order of "Link memory".
+pub mod Record
+pub mod Live
+pub mod Name
+pub mod Search
+pub mod Write

@@ -1,0 +1,50 @@
+-- The search, and the number of records read ("Link memory").
+use Prim.Native.Nat.{ℕ, _+_}
+use mathlib.Core.Bool.{Bool, false, _&&_, _||_}
+use mathlib.Core.List.{List}
+use lib.Dec.{eqb, ltb}
+use Rattle.basis.specs.Choice.{choose}
+use Rattle.basis.specs.First.{first}
+use Rattle.links.specs.declared.Link.{Link}
+use Rattle.links.specs.declared.Wanted.{Wanted}
+use Rattle.links.specs.declared.Found.{Found}
+use Rattle.links.specs.Record.{records, recordAt, linkOf, inUse, responder, endMark, bears}
+
+-- a record in use that is looked for
+abbrev pub matches : Wanted → List ℕ → Bool
+matches Wanted.Nobody r = false
+matches (Wanted.Sender a) r = inUse r && bears r a
+matches (Wanted.Responder a g) r = inUse r && bears r a && responder r && eqb (linkOf r .group) g
+
+-- the search stops at the first record that settles it: a match or the end mark
+abbrev pub settles : Wanted → List ℕ → Bool
+settles w r = endMark r || matches w r
+
+unfoldable pub stopOf : List ℕ → Wanted → ℕ
+stopOf l w = first (λ k. settles w (recordAt l k)) (records l)
+
+-- the record that settled it is counted; where none did, all are
+abbrev pub stoppedAt : List ℕ → ℕ → Found
+stoppedAt l k =
+    choose (ltb k (records l))
+    (choose (endMark (recordAt l k)) (Found.End (k + 1)) (Found.Match (linkOf (recordAt l k)) (k + 1)))
+    (Found.Memory (records l))
+
+abbrev pub searchOf : List ℕ → Wanted → Found
+searchOf l Wanted.Nobody = Found.Unsought
+searchOf l (Wanted.Sender a) = stoppedAt l (stopOf l (Wanted.Sender a))
+searchOf l (Wanted.Responder a g) = stoppedAt l (stopOf l (Wanted.Responder a g))
+
+-- 0 where no search was made
+abbrev pub readBy : Found → ℕ
+readBy Found.Unsought = 0
+readBy (Found.Match link n) = n
+readBy (Found.End n) = n
+readBy (Found.Memory n) = n
+
+-- what follows from the record found, or from none
+abbrev pub ifFound : {A : Type 0} → Found → (Link → A) → A → A
+ifFound Found.Unsought then none = none
+ifFound (Found.Match link n) then none = then link
+ifFound (Found.End n) then none = none
+ifFound (Found.Memory n) then none = none

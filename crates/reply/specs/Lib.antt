@@ -1,0 +1,4 @@
+-- Replies, byte by byte.
+pub mod Message
+pub mod Records
+pub mod Reply

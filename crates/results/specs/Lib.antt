@@ -1,0 +1,2 @@
+-- Result numbers.
+pub mod Number

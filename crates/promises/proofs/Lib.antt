@@ -1,0 +1,2 @@
+-- Proofs of what is promised.
+pub mod Examples

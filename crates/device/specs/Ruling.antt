@@ -26,16 +26,16 @@ abbrev pub silent : Module → Outcome → Ruling
 silent m outcome = record { plan = refused m outcome Due.Nothing; read = 0 }
 
 -- by what the search found; 3 where the kind is none of our business
-abbrev pub foundPlan : Module → List ℕ → Kind → List ℕ → Found → Ruling
-foundPlan m l kind d found = record { plan = planOf m kind d (records l) found; read = readBy found }
+abbrev pub foundRuling : Module → List ℕ → Kind → List ℕ → Found → Ruling
+foundRuling m l kind d found = record { plan = planOf m kind d (records l) found; read = readBy found }
 
-abbrev pub readPlan : Module → List ℕ → List ℕ → Reading → Ruling
-readPlan m l d (Reading.Heard kind) = foundPlan m l kind d (searchOf l (wantedOf kind))
-readPlan m l d Reading.BadLength = silent m Outcome.BadLength
-readPlan m l d Reading.BadSum = silent m Outcome.BadSum
+abbrev pub readRuling : Module → List ℕ → List ℕ → Reading → Ruling
+readRuling m l d (Reading.Heard kind) = foundRuling m l kind d (searchOf l (wantedOf kind))
+readRuling m l d Reading.BadLength = silent m Outcome.BadLength
+readRuling m l d Reading.BadSum = silent m Outcome.BadSum
 
 unfoldable pub rulingOf : Module → List ℕ → List ℕ → Ruling
 rulingOf m l s =
     choose (fit l)
-    (readPlan m l (heardBy m s .«data») (heardBy m s .reading))
+    (readRuling m l (heardBy m s .«data») (heardBy m s .reading))
     (silent m Outcome.BadMemory)

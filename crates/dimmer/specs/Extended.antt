@@ -13,7 +13,6 @@ use Rattle.wire.specs.declared.command.Extended.{Extended}
 use Rattle.links.specs.declared.Place.{Place}
 use Rattle.links.specs.Name.{placeOf}
 use Rattle.reply.specs.declared.Sort.{Sort}
-use Rattle.reply.specs.declared.Properties.{Properties}
 use Rattle.reply.specs.declared.Due.{Due}
 use Rattle.results.specs.declared.Outcome.{Outcome}
 use Rattle.dimmer.specs.declared.state.Module.{Module}
@@ -25,10 +24,6 @@ use Rattle.dimmer.specs.Plan.{ack, done, acked, unlisted}
 -- Data i, of Data 1 to Data 14
 abbrev pub dataIn : List ℕ → ℕ → ℕ
 dataIn d i = getD d (i - 1) 0
-
--- what Get Properties shows
-abbrev pub shown : Module → ℕ → Properties
-shown m data1 = record { data1 = data1; house = m .house; unit = m .unit; ramp = m .ramp; «on_level» = m .«on_level»; led = m .led }
 
 -- link memory has n records
 module _ (m : Module) (from : Address) (c : Codes) (d : List ℕ) (n : ℕ) where
@@ -47,7 +42,7 @@ module _ (m : Module) (from : Address) (c : Codes) (d : List ℕ) (n : ℕ) wher
   unfoldable pub propertiesPlan : Plan
   propertiesPlan =
       among (dataIn d 2) refusal
-      (0x00 ⇒ done m (Due.WithProperties (ack from c) (shown m (dataIn d 1))) ∷
+      (0x00 ⇒ done m (Due.WithProperties (ack from c) (dataIn d 1) (m .properties)) ∷
       0x04 ⇒ acked from c (withX10 (dataIn d 3) (dataIn d 4) m) ∷
       0x05 ⇒ limited 0x00 0x1f (dataIn d 3) (withRamp (dataIn d 3) m) ∷
       0x06 ⇒ acked from c (withOnLevel (dataIn d 3) m) ∷

@@ -16,15 +16,15 @@ use Rattle.dimmer.specs.Module.{withLevel}
 use Rattle.dimmer.specs.Plan.{ack, done, answered, acked, unlisted}
 
 -- level plus 8, at most FF; level minus 8, at least 00
-abbrev pub brighter : ℕ → ℕ
-brighter level = min (level + 8) 0xff
+abbrev pub raised : ℕ → ℕ
+raised level = min (level + 8) 0xff
 
-abbrev pub dimmer : ℕ → ℕ
-dimmer level = level - 8
+abbrev pub lowered : ℕ → ℕ
+lowered level = level - 8
 
 -- the high digit followed by the digit F
-abbrev pub highDigit : ℕ → ℕ
-highDigit two = two / 16 * 16 + 15
+abbrev pub highThenF : ℕ → ℕ
+highThenF two = two / 16 * 16 + 15
 
 -- a level as per cent, and per cent as a level
 abbrev pub percentOf : ℕ → ℕ
@@ -67,11 +67,11 @@ module _ (m : Module) (from : Address) (c : Codes) where
   standardPlan Standard.Instant = acked from c (withLevel (c .two) m)
   standardPlan Standard.Off = acked from c (withLevel 0x00 m)
   standardPlan Standard.OffFast = acked from c (withLevel 0x00 m)
-  standardPlan Standard.Brighten = acked from c (withLevel (brighter (m .level)) m)
-  standardPlan Standard.Dim = acked from c (withLevel (dimmer (m .level)) m)
+  standardPlan Standard.Brighten = acked from c (withLevel (raised (m .level)) m)
+  standardPlan Standard.Dim = acked from c (withLevel (lowered (m .level)) m)
   standardPlan Standard.Status = statusPlan
   standardPlan Standard.ReadFlags = readFlagsPlan
-  standardPlan Standard.OnAtRamp = acked from c (withLevel (highDigit (c .two)) m)
+  standardPlan Standard.OnAtRamp = acked from c (withLevel (highThenF (c .two)) m)
   standardPlan Standard.OffAtRamp = acked from c (withLevel 0x00 m)
   standardPlan Standard.Beep = acked from c m
   standardPlan Standard.Percent = percentPlan

@@ -1,4 +1,5 @@
 // One Insteon dimmer module, as values ("The module we simulate").
+use reply::Properties;
 use wire::address::Address;
 ghost use mathlib.Core.Path.{_≡_};
 ghost use Rattle.dimmer.specs.Module.{freshOf};
@@ -15,11 +16,8 @@ pub struct Module {
     pub identity: Identity,
     pub level: u8,
     pub flags: u8,
-    pub ramp: u8,
-    pub on_level: u8,
-    pub led: u8,
-    pub house: u8,
-    pub unit: u8,
+    // X10 house and unit, ramp rate, on level and LED brightness.
+    pub properties: Properties,
     pub delta: u8,
 }
 
@@ -49,11 +47,13 @@ impl Module {
             identity: identity,
             level: FRESH_LEVEL,
             flags: FRESH_FLAGS,
-            ramp: FRESH_RAMP,
-            on_level: FRESH_ON_LEVEL,
-            led: FRESH_LED,
-            house: FRESH_HOUSE,
-            unit: FRESH_UNIT,
+            properties: Properties {
+                house: FRESH_HOUSE,
+                unit: FRESH_UNIT,
+                ramp: FRESH_RAMP,
+                on_level: FRESH_ON_LEVEL,
+                led: FRESH_LED,
+            },
             delta: FRESH_DELTA,
         }
     }

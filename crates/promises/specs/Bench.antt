@@ -11,11 +11,7 @@ bench level flags ramp delta =
       identity = record { address = record { high = 0x00; middle = 0x10; low = 0x3a }; category = 0x01; subcategory = 0x0f; firmware = 0xc1; revision = 0x00 };
       level = level;
       flags = flags;
-      ramp = ramp;
-      «on_level» = 0xff;
-      led = 0x3f;
-      house = 0x20;
-      unit = 0x20;
+      properties = record { house = 0x20; unit = 0x20; ramp = ramp; «on_level» = 0xff; led = 0x3f };
       delta = delta;
     }
 

@@ -9,14 +9,14 @@ use Rattle.reply.specs.Message.{standard, extended, headOf}
 use Rattle.reply.specs.Records.{recordsFrom, limitOf}
 
 -- Data 1 as sent, 01, 00, 00, house, unit, ramp, on level, LED, 00, 01, 00, 00, 00
-abbrev pub propertiesOf : Properties → List ℕ
-propertiesOf p =
-    p .data1 ∷ 0x01 ∷ 0x00 ∷ 0x00 ∷ p .house ∷ p .unit ∷ p .ramp ∷ p .«on_level» ∷ p .led ∷ 0x00 ∷ 0x01 ∷ 0x00 ∷ 0x00 ∷ 0x00 ∷ []
+abbrev pub propertiesOf : ℕ → Properties → List ℕ
+propertiesOf data1 p =
+    data1 ∷ 0x01 ∷ 0x00 ∷ 0x00 ∷ p .house ∷ p .unit ∷ p .ramp ∷ p .«on_level» ∷ p .led ∷ 0x00 ∷ 0x01 ∷ 0x00 ∷ 0x00 ∷ 0x00 ∷ []
 
 -- what the module at address `own`, with link memory l, sends
 abbrev pub replyOf : Address → List ℕ → Due → List ℕ
 replyOf own l Due.Nothing = []
 replyOf own l (Due.Alone h) = headOf own h
 replyOf own l (Due.WithId h id revision) = headOf own h ++ standard own id Sort.IdBroadcast 0x01 revision
-replyOf own l (Due.WithProperties h p) = headOf own h ++ extended own (h .to) 0x2e (propertiesOf p)
+replyOf own l (Due.WithProperties h data1 p) = headOf own h ++ extended own (h .to) 0x2e (propertiesOf data1 p)
 replyOf own l (Due.WithRecords h data1 k count) = headOf own h ++ recordsFrom own (h .to) data1 l (limitOf l k count) k

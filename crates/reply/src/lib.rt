@@ -19,9 +19,8 @@ pub struct Head {
     pub two: u8,
 }
 
-// What Get Properties shows, with Data 1 as it was sent.
+// What Get Properties shows.
 pub struct Properties {
-    pub data1: u8,
     pub house: u8,
     pub unit: u8,
     pub ramp: u8,
@@ -36,8 +35,8 @@ pub enum Due {
     Alone(Head),
     // Then a broadcast of category, subcategory and firmware, and of the hardware revision.
     WithId(Head, Address, u8),
-    // Then the properties.
-    WithProperties(Head, Properties),
+    // Then the properties, with Data 1 as it was sent.
+    WithProperties(Head, u8, Properties),
     // Then records: Data 1 as it was sent, the first record, and how many at most, 0 for no limit.
     WithRecords(Head, u8, usize, usize),
 }

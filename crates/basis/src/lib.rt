@@ -1,2 +1,17 @@
-// What the definitions of every layer are written with: choices, tables and first positions. It has no code; its definitions stand in
-// specs/ and their laws in proofs/.
+// What every layer is written with. Its definitions stand in specs/ and their laws in proofs/; its one function is the loop that lays bytes.
+ghost use mathlib.Core.Path.{_≡_};
+ghost use Rattle.basis.specs.Laid.{laidIn};
+
+// The bytes over the start of the room; what stands behind them stays. Where they do not fit, nothing is written.
+pub fn lay(room: &mut [u8], bytes: &[u8])
+    ensures { λ _. ⌜ now (room .exit) ≡ laidIn (now (room .entry)) (now (bytes .entry)) ⌝ }
+{
+    if room.len() < bytes.len() {
+        return;
+    }
+    let mut i: usize = 0;
+    while i < bytes.len() {
+        room[i] = bytes[i];
+        i += 1;
+    }
+}

@@ -6,10 +6,10 @@ use Rattle.wire.specs.declared.kind.Kind.{Kind}
 use Rattle.wire.specs.declared.kind.Reading.{Reading}
 use Rattle.wire.specs.declared.kind.Message.{Message}
 use Rattle.wire.specs.Reading.{readOf}
-use Rattle.links.specs.declared.Found.{Found}
+use Rattle.links.specs.declared.search.Found.{Found}
 use Rattle.links.specs.Record.{fit, records}
 use Rattle.links.specs.Search.{searchOf, readBy}
-use Rattle.reply.specs.declared.Due.{Due}
+use Rattle.reply.specs.declared.due.Due.{Due}
 use Rattle.results.specs.declared.Outcome.{Outcome}
 use Rattle.dimmer.specs.declared.state.Module.{Module}
 use Rattle.dimmer.specs.declared.plan.Plan.{Plan}

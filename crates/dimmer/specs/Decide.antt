@@ -8,11 +8,11 @@ use Rattle.wire.specs.declared.address.Address.{Address}
 use Rattle.wire.specs.declared.command.Codes.{Codes}
 use Rattle.wire.specs.declared.command.Command.{Command}
 use Rattle.wire.specs.declared.kind.Kind.{Kind}
-use Rattle.links.specs.declared.Wanted.{Wanted}
-use Rattle.links.specs.declared.Found.{Found}
+use Rattle.links.specs.declared.search.Wanted.{Wanted}
+use Rattle.links.specs.declared.search.Found.{Found}
 use Rattle.links.specs.Search.{ifFound}
-use Rattle.reply.specs.declared.Sort.{Sort}
-use Rattle.reply.specs.declared.Due.{Due}
+use Rattle.reply.specs.declared.due.Sort.{Sort}
+use Rattle.reply.specs.declared.due.Due.{Due}
 use Rattle.results.specs.declared.Outcome.{Outcome}
 use Rattle.dimmer.specs.declared.state.Module.{Module}
 use Rattle.dimmer.specs.declared.plan.Plan.{Plan}

@@ -10,10 +10,10 @@ use Rattle.basis.specs.Flags.{flagged}
 use Rattle.wire.specs.declared.address.Address.{Address}
 use Rattle.wire.specs.declared.command.Codes.{Codes}
 use Rattle.wire.specs.declared.command.Extended.{Extended}
-use Rattle.links.specs.declared.Place.{Place}
+use Rattle.links.specs.declared.name.Place.{Place}
 use Rattle.links.specs.Name.{placeOf}
-use Rattle.reply.specs.declared.Sort.{Sort}
-use Rattle.reply.specs.declared.Due.{Due}
+use Rattle.reply.specs.declared.due.Sort.{Sort}
+use Rattle.reply.specs.declared.due.Due.{Due}
 use Rattle.results.specs.declared.Outcome.{Outcome}
 use Rattle.dimmer.specs.declared.state.Module.{Module}
 use Rattle.dimmer.specs.declared.plan.Write.{Write}

@@ -4,11 +4,11 @@ use lib.Dec.{eqb}
 use Rattle.wire.specs.declared.address.Address.{Address}
 use Rattle.wire.specs.declared.command.Codes.{Codes}
 use Rattle.wire.specs.declared.command.Turn.{Turn}
-use Rattle.links.specs.declared.Link.{Link}
-use Rattle.links.specs.declared.Found.{Found}
+use Rattle.links.specs.declared.memory.Link.{Link}
+use Rattle.links.specs.declared.search.Found.{Found}
 use Rattle.links.specs.Search.{ifFound}
-use Rattle.reply.specs.declared.Sort.{Sort}
-use Rattle.reply.specs.declared.Due.{Due}
+use Rattle.reply.specs.declared.due.Sort.{Sort}
+use Rattle.reply.specs.declared.due.Due.{Due}
 use Rattle.results.specs.declared.Outcome.{Outcome}
 use Rattle.dimmer.specs.declared.state.Module.{Module}
 use Rattle.dimmer.specs.declared.plan.Plan.{Plan}

@@ -1,6 +1,6 @@
 -- The module's values ("The module we simulate").
 use Prim.Native.Nat.{ℕ, _+_, _%_}
-use Rattle.reply.specs.declared.Properties.{Properties}
+use Rattle.reply.specs.declared.due.Properties.{Properties}
 use Rattle.dimmer.specs.declared.state.Identity.{Identity}
 use Rattle.dimmer.specs.declared.state.Module.{Module}
 

@@ -2,9 +2,9 @@
 use Prim.Native.Nat.{ℕ}
 use Rattle.wire.specs.declared.address.Address.{Address}
 use Rattle.wire.specs.declared.command.Codes.{Codes}
-use Rattle.reply.specs.declared.Sort.{Sort}
-use Rattle.reply.specs.declared.Head.{Head}
-use Rattle.reply.specs.declared.Due.{Due}
+use Rattle.reply.specs.declared.due.Sort.{Sort}
+use Rattle.reply.specs.declared.due.Head.{Head}
+use Rattle.reply.specs.declared.due.Due.{Due}
 use Rattle.results.specs.declared.Outcome.{Outcome}
 use Rattle.dimmer.specs.declared.state.Module.{Module}
 use Rattle.dimmer.specs.declared.plan.Write.{Write}

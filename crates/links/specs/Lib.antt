@@ -3,4 +3,5 @@ pub mod Record
 pub mod Live
 pub mod Name
 pub mod Search
+pub mod Settled
 pub mod Write

@@ -6,21 +6,34 @@ use mathlib.Core.List.{List}
 use Rattle.wire.specs.declared.address.Address.{Address}
 use Rattle.links.specs.Record.{records, recordAt, inUse, endMark, bears}
 
+-- of n records, by what stands at each place
+
 -- record k is the first never-used one
-pub record FirstUnused (l : List ℕ) (k : ℕ) : Type 0 where
-  pub inside : k < records l
-  pub unused : endMark (recordAt l k) ≡ true
-  pub before : (j : ℕ) → j < k → endMark (recordAt l j) ≡ false
+pub record FirstUnusedOf (n : ℕ) (at : ℕ → List ℕ) (k : ℕ) : Type 0 where
+  pub inside : k < n
+  pub unused : endMark (at k) ≡ true
+  pub before : (j : ℕ) → j < k → endMark (at j) ≡ false
 
 -- record k is live: bits 7 and 1 are set, and no record before it is an end mark
-pub record Live (l : List ℕ) (k : ℕ) : Type 0 where
-  pub inside : k < records l
-  pub used : inUse (recordAt l k) ≡ true
-  pub unmarked : endMark (recordAt l k) ≡ false
-  pub before : (j : ℕ) → j < k → endMark (recordAt l j) ≡ false
+pub record LiveOf (n : ℕ) (at : ℕ → List ℕ) (k : ℕ) : Type 0 where
+  pub inside : k < n
+  pub used : inUse (at k) ≡ true
+  pub unmarked : endMark (at k) ≡ false
+  pub before : (j : ℕ) → j < k → endMark (at j) ≡ false
 
 -- some live record, controller or responder, bears the address
-pub record Linked (l : List ℕ) (a : Address) : Type 0 where
-  pub at : ℕ
-  pub live : Live l at
-  pub its : bears (recordAt l at) a ≡ true
+pub record LinkedOf (n : ℕ) (at : ℕ → List ℕ) (a : Address) : Type 0 where
+  pub place : ℕ
+  pub live : LiveOf n at place
+  pub its : bears (at place) a ≡ true
+
+-- of a link memory
+
+abbrev pub FirstUnused : List ℕ → ℕ → Type 0
+FirstUnused l = FirstUnusedOf (records l) (recordAt l)
+
+abbrev pub Live : List ℕ → ℕ → Type 0
+Live l = LiveOf (records l) (recordAt l)
+
+abbrev pub Linked : List ℕ → Address → Type 0
+Linked l = LinkedOf (records l) (recordAt l)

@@ -2,12 +2,13 @@
 use Prim.Native.Nat.{ℕ, _+_, _*_, _/_, _%_}
 use mathlib.Core.Bool.{Bool, _&&_, not}
 use mathlib.Core.List.{List, [], _∷_}
-use lib.Dec.{eqb}
-use lib.ListN.{length, getD}
+use lib.Dec.{eqb, ltb}
+use lib.ListN.{length, getD, replicate}
+use Rattle.basis.specs.Choice.{choose}
 use Rattle.basis.specs.Numbers.{isSet, within}
 use Rattle.wire.specs.Bytes.{addressAt, sameAddress}
 use Rattle.wire.specs.declared.address.Address.{Address}
-use Rattle.links.specs.declared.Link.{Link}
+use Rattle.links.specs.declared.memory.Link.{Link}
 
 -- its length is not 0, not over 2,048, and a multiple of 8: result 2 does not apply
 abbrev pub fit : List ℕ → Bool
@@ -28,6 +29,10 @@ recordAt l k =
     getD l (k * 8 + 6) 0 ∷
     getD l (k * 8 + 7) 0 ∷
     []
+
+-- past the last record, a never-used one
+abbrev pub recordIn : List ℕ → ℕ → List ℕ
+recordIn l k = choose (ltb k (records l)) (recordAt l k) (replicate 8 0)
 
 -- flags, group, address (3), D1, D2, D3
 abbrev pub linkOf : List ℕ → Link

@@ -5,23 +5,30 @@ use mathlib.Core.List.{List}
 use lib.Dec.{eqb, ltb}
 use Rattle.basis.specs.Choice.{choose}
 use Rattle.basis.specs.First.{first}
-use Rattle.links.specs.declared.Link.{Link}
-use Rattle.links.specs.declared.Wanted.{Wanted}
-use Rattle.links.specs.declared.Found.{Found}
+use Rattle.links.specs.declared.memory.Link.{Link}
+use Rattle.links.specs.declared.search.Wanted.{Wanted}
+use Rattle.links.specs.declared.search.Found.{Found}
 use Rattle.links.specs.Record.{records, recordAt, linkOf, inUse, responder, endMark, bears}
 
--- a record in use that is looked for
+-- a record that is looked for
+abbrev pub answers : Wanted → List ℕ → Bool
+answers Wanted.Nobody r = false
+answers (Wanted.Sender a) r = bears r a
+answers (Wanted.Responder a g) r = bears r a && responder r && eqb (linkOf r .group) g
+
+-- in use as well; that no end mark stands before it is seen by where the search stops
 abbrev pub matches : Wanted → List ℕ → Bool
-matches Wanted.Nobody r = false
-matches (Wanted.Sender a) r = inUse r && bears r a
-matches (Wanted.Responder a g) r = inUse r && bears r a && responder r && eqb (linkOf r .group) g
+matches w r = inUse r && answers w r
 
 -- the search stops at the first record that settles it: a match or the end mark
 abbrev pub settles : Wanted → List ℕ → Bool
 settles w r = endMark r || matches w r
 
+abbrev pub settlesAt : List ℕ → Wanted → ℕ → Bool
+settlesAt l w k = settles w (recordAt l k)
+
 unfoldable pub stopOf : List ℕ → Wanted → ℕ
-stopOf l w = first (λ k. settles w (recordAt l k)) (records l)
+stopOf l w = first (settlesAt l w) (records l)
 
 -- the record that settled it is counted; where none did, all are
 abbrev pub stoppedAt : List ℕ → ℕ → Found

@@ -1,0 +1,7 @@
+-- Laws of link memory.
+pub mod Taken
+pub mod Stop
+pub mod Settled
+pub mod Linked
+pub mod Named
+pub mod Written

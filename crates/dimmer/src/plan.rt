@@ -1,6 +1,6 @@
 // What is decided for a message: all that is to happen, while nothing has been written yet.
 use crate::state::Module;
-use reply::Due;
+use reply::due::Due;
 use results::Outcome;
 
 // What goes over a record of link memory.

@@ -1,5 +1,5 @@
 // One Insteon dimmer module, as values ("The module we simulate").
-use reply::Properties;
+use reply::due::Properties;
 use wire::address::Address;
 ghost use mathlib.Core.Path.{_≡_};
 ghost use Rattle.dimmer.specs.Module.{freshOf};

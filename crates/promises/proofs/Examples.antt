@@ -8,7 +8,7 @@ use Rattle.wire.specs.Kinds.{kindOf}
 use Rattle.wire.specs.Reading.{readOf}
 use Rattle.links.specs.Name.{placeOf}
 use Rattle.links.specs.Search.{stopOf}
-use Rattle.reply.specs.Records.{recordsFrom}
+use Rattle.reply.specs.Records.{recordsFrom, upToMark}
 use Rattle.dimmer.specs.Standard.{statusPlan, readFlagsPlan, percentPlan}
 use Rattle.dimmer.specs.Extended.{limited, flagsPlan, propertiesPlan, place, databasePlan}
 use Rattle.dimmer.specs.Decide.{directPlan}
@@ -21,11 +21,11 @@ use Rattle.promises.specs.Refusals.{ping, refusals}
 use Rattle.promises.specs.Sequence.{OneAfterTheOther}
 
 pub examples-right : AllRight examples
-unfolding choose firstFrom flagged standards extendeds turnOf kindOf readOf placeOf stopOf recordsFrom statusPlan readFlagsPlan percentPlan limited flagsPlan propertiesPlan place databasePlan directPlan rulingOf bench fresh us linked stranger zeros first-record other-record memory direct extended cleanup broadcast reply room database examples
+unfolding choose firstFrom flagged standards extendeds turnOf kindOf readOf placeOf stopOf recordsFrom upToMark statusPlan readFlagsPlan percentPlan limited flagsPlan propertiesPlan place databasePlan directPlan rulingOf bench fresh us linked stranger zeros first-record other-record memory direct extended cleanup broadcast reply room database examples
 examples-right = refl
 
 pub refusals-right : AllRight refusals
-unfolding choose firstFrom flagged standards extendeds turnOf kindOf readOf placeOf stopOf recordsFrom statusPlan readFlagsPlan percentPlan limited flagsPlan propertiesPlan place databasePlan directPlan rulingOf bench fresh us linked stranger zeros first-record other-record memory direct extended cleanup broadcast reply room ping refusals
+unfolding choose firstFrom flagged standards extendeds turnOf kindOf readOf placeOf stopOf recordsFrom upToMark statusPlan readFlagsPlan percentPlan limited flagsPlan propertiesPlan place databasePlan directPlan rulingOf bench fresh us linked stranger zeros first-record other-record memory direct extended cleanup broadcast reply room ping refusals
 refusals-right = refl
 
 pub one-after-the-other : OneAfterTheOther

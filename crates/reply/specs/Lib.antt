@@ -2,3 +2,4 @@
 pub mod Message
 pub mod Records
 pub mod Reply
+pub mod Sending

@@ -2,8 +2,8 @@
 use Prim.Native.Nat.{ℕ}
 use mathlib.Core.List.{List, [], _∷_, _++_}
 use Rattle.wire.specs.declared.address.Address.{Address}
-use Rattle.reply.specs.declared.Sort.{Sort}
-use Rattle.reply.specs.declared.Head.{Head}
+use Rattle.reply.specs.declared.due.Sort.{Sort}
+use Rattle.reply.specs.declared.due.Head.{Head}
 
 abbrev pub flagsOf : Sort → ℕ
 flagsOf Sort.Ack = 0x2b

@@ -1,8 +1,10 @@
 -- The records that Get Database sends ("Direct commands, extended").
 use Prim.Native.Nat.{ℕ, zero, suc, _+_, _-_, _/_, _%_, min}
+use mathlib.Core.Bool.{Bool}
 use mathlib.Core.List.{List, [], _∷_, _++_}
 use lib.Dec.{eqb}
 use Rattle.basis.specs.Choice.{choose}
+use Rattle.basis.specs.First.{firstFrom}
 use Rattle.wire.specs.declared.address.Address.{Address}
 use Rattle.links.specs.Record.{records, recordAt, endMark}
 use Rattle.links.specs.Name.{nameOf}
@@ -14,13 +16,22 @@ recordMessage own to data1 l k =
     extended own to 0x2f
     (data1 ∷ 0x01 ∷ nameOf k / 256 ∷ nameOf k % 256 ∷ 0x00 ∷ (recordAt l k ++ (0x00 ∷ [])))
 
--- n records upward from k, none behind an end mark
+-- n records upward from k
 unfoldable pub recordsFrom : Address → Address → ℕ → List ℕ → ℕ → ℕ → List ℕ
 recordsFrom own to data1 l zero k = []
-recordsFrom own to data1 l (suc n) k =
-    let later : List ℕ = recordsFrom own to data1 l n (k + 1) in
-    recordMessage own to data1 l k ++ choose (endMark (recordAt l k)) [] later
+recordsFrom own to data1 l (suc n) k = recordMessage own to data1 l k ++ recordsFrom own to data1 l n (k + 1)
 
--- how many there are at most: count, 00 for no limit, and none behind the memory's end
+-- as many as count says, 00 for no limit, and none behind the memory's end
 abbrev pub limitOf : List ℕ → ℕ → ℕ → ℕ
-limitOf l k count = choose (eqb count 0) (records l - k) (min count (records l - k))
+limitOf l k count = min (records l - k) (choose (eqb count 0) (records l) count)
+
+abbrev pub markAt : List ℕ → ℕ → Bool
+markAt l k = endMark (recordAt l k)
+
+-- of n records from k on, those before the first end mark, and the end mark
+unfoldable pub upToMark : List ℕ → ℕ → ℕ → ℕ
+upToMark l n k = min n (firstFrom (markAt l) n k + 1 - k)
+
+-- how many are sent from record k on
+abbrev pub sentOf : List ℕ → ℕ → ℕ → ℕ
+sentOf l k count = upToMark l (limitOf l k count) k

@@ -1,0 +1,3 @@
+-- Laws of replies.
+pub mod Upward
+pub mod Measured

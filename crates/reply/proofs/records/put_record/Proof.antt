@@ -1,0 +1,35 @@
+use Prim.Native.Nat.{ℕ, _/_, _%_}
+use mathlib.Core.Path.{_∙_}
+use native.Mathlib.Omega.{arith}
+use borrow.Author.Needs.{needs}
+use Rattle.links.proofs.Taken.{taken}
+use Rattle.reply.proofs.records.put_record.Statement.{statement}
+use Rattle.reply.proofs.records.put_record.Tie as tie
+use Rattle.reply.proofs.records.put_record.Reads as reads
+use Rattle.reply.proofs.records.put_record.Lts as lts
+
+returns : tie.Need-returns
+returns c =
+    let s = c .before .before .before .before .before .before .before .before in
+    let r = c .before .before .before .before .take-record .ensures ∙ taken (s .args .links .now) (s .args .k) (s .pre) in
+    rw (r, c .before .before .before .before .before .name-of .ensures) at (c .before .before .put-extended .ensures)
+
+pub put-record-spec : {M : Type 1} → statement M
+put-record-spec =
+    tie.close
+    (tie.spec
+    (λ c κs. search needs)
+    (λ c. search needs)
+    (λ c. search needs)
+    (λ c κs. search needs)
+    (λ c. search needs)
+    (λ c. search needs)
+    (λ c. search needs)
+    (λ c. search needs)
+    (λ c. search needs)
+    (λ c. search needs)
+    (λ c. search needs)
+    (λ c. search needs)
+    (λ c κs. search needs)
+    (λ c. search needs)
+    returns)

@@ -1,0 +1,103 @@
+// The records that Get Database sends ("Direct commands, extended").
+use crate::message::put_extended;
+use links::memory::is_end;
+use links::memory::size;
+use links::memory::take_record;
+use links::name::name_of;
+use wire::address::Address;
+ghost use mathlib.Core.Path.{_≡_};
+ghost use Prim.Native.Nat.{_-_, _*_, _≤_, _<_};
+ghost use lib.ListN.{length};
+ghost use Rattle.basis.specs.Laid.{laidIn};
+ghost use Rattle.links.specs.Record.{records};
+ghost use Rattle.reply.specs.Records.{limitOf, upToMark, sentOf, recordMessage, recordsFrom};
+
+// How many records are sent from record `k` on, where `count` are asked for.
+pub(crate) fn count_sent(links: &[u8], k: usize, count: usize) -> usize
+    ensures { λ r. ⌜ r ≡ sentOf (now (links .entry)) k count ⌝ }
+{
+    up_to_mark(links, k, limit(links, k, count))
+}
+
+// Those that are asked for, 0 for no limit, as far as there are any.
+fn limit(links: &[u8], k: usize, count: usize) -> usize
+    ensures { λ r. ⌜ r ≡ limitOf (now (links .entry)) k count ⌝ }
+{
+    let n = size(links);
+    if n <= k {
+        return 0;
+    }
+    let left = n - k;
+    if count == 0 {
+        return left;
+    }
+    if count < left { count } else { left }
+}
+
+// Of `n` records those before the first end mark, and the end mark.
+fn up_to_mark(links: &[u8], k: usize, n: usize) -> usize
+    requires { ⌜ n ≤ records (now links) - k ⌝ }
+    ensures { λ r. ⌜ r ≡ upToMark (now (links .entry)) n k ⌝ }
+{
+    let mut i: usize = 0;
+    loop {
+        if i == n {
+            break i;
+        }
+        let record = take_record(links, k + i);
+        i += 1;
+        if is_end(record) {
+            break i;
+        }
+    }
+}
+
+// One record in the remaining part of the room.
+fn put_record(room: &mut [u8], own: Address, to: Address, data1: u8, links: &[u8], k: usize)
+    requires { ⌜ k < records (now links) ⌝ }
+    ensures { λ _. ⌜ now (room .exit) ≡ laidIn (now (room .entry)) (recordMessage own to data1 (now (links .entry)) k) ⌝ }
+{
+    let name = name_of(k);
+    let high = (name / 256) as u8;
+    let low = (name % 256) as u8;
+    let r = take_record(links, k);
+    let data = [
+        data1,
+        0x01,
+        high,
+        low,
+        0x00,
+        r[0],
+        r[1],
+        r[2],
+        r[3],
+        r[4],
+        r[5],
+        r[6],
+        r[7],
+        0x00,
+    ];
+    put_extended(room, own, to, 0x2f, data);
+}
+
+// `n` records upward from record `k`, each directly after the one before it.
+pub(crate) fn put_records(
+    room: &mut [u8],
+    own: Address,
+    to: Address,
+    data1: u8,
+    links: &[u8],
+    k: usize,
+    n: usize,
+)
+    requires { ⌜ n ≤ records (now links) - k ⌝ }
+    requires { ⌜ 23 * n ≤ length (now room) ⌝ }
+    ensures { λ _. ⌜ now (room .exit) ≡ laidIn (now (room .entry)) (recordsFrom own to data1 (now (links .entry)) n k) ⌝ }
+{
+    let mut i: usize = 0;
+    while i < n {
+        let at = 23 * i;
+        put_record(&mut room[at..], own, to, data1, links, k + i);
+        i += 1;
+    }
+}

@@ -5,3 +5,4 @@ pub mod First
 pub mod Spelled
 pub mod Laid
 pub mod Over
+pub mod Flags

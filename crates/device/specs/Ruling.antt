@@ -12,10 +12,9 @@ use Rattle.links.specs.Search.{searchOf, readBy}
 use Rattle.reply.specs.declared.due.Due.{Due}
 use Rattle.results.specs.declared.Outcome.{Outcome}
 use Rattle.dimmer.specs.declared.state.Module.{Module}
-use Rattle.dimmer.specs.declared.plan.Plan.{Plan}
 use Rattle.dimmer.specs.Plan.{refused}
 use Rattle.dimmer.specs.Decide.{wantedOf, planOf}
-use Rattle.device.specs.declared.Ruling.{Ruling}
+use Rattle.device.specs.declared.rule.Ruling.{Ruling}
 
 -- the message as the module m reads it
 abbrev pub heardBy : Module → List ℕ → Message
@@ -25,17 +24,21 @@ heardBy m s = readOf s (m .identity .address)
 abbrev pub silent : Module → Outcome → Ruling
 silent m outcome = record { plan = refused m outcome Due.Nothing; read = 0 }
 
--- by what the search found; 3 where the kind is none of our business
-abbrev pub foundRuling : Module → List ℕ → Kind → List ℕ → Found → Ruling
-foundRuling m l kind d found = record { plan = planOf m kind d (records l) found; read = readBy found }
+-- by what the search that the kind asks for found; 3 where the kind is none of our business
+abbrev pub foundRuling : Module → List ℕ → List ℕ → Kind → Found → Ruling
+foundRuling m l d kind found = record { plan = planOf m kind d (records l) found; read = readBy found }
+
+abbrev pub kindRuling : Module → List ℕ → List ℕ → Kind → Ruling
+kindRuling m l d kind = foundRuling m l d kind (searchOf l (wantedOf kind))
 
 abbrev pub readRuling : Module → List ℕ → List ℕ → Reading → Ruling
-readRuling m l d (Reading.Heard kind) = foundRuling m l kind d (searchOf l (wantedOf kind))
+readRuling m l d (Reading.Heard kind) = kindRuling m l d kind
 readRuling m l d Reading.BadLength = silent m Outcome.BadLength
 readRuling m l d Reading.BadSum = silent m Outcome.BadSum
 
-unfoldable pub rulingOf : Module → List ℕ → List ℕ → Ruling
-rulingOf m l s =
-    choose (fit l)
-    (readRuling m l (heardBy m s .«data») (heardBy m s .reading))
-    (silent m Outcome.BadMemory)
+-- of a message as it was read
+unfoldable pub rulingBy : Module → List ℕ → Message → Ruling
+rulingBy m l message = choose (fit l) (readRuling m l (message .«data») (message .reading)) (silent m Outcome.BadMemory)
+
+abbrev pub rulingOf : Module → List ℕ → List ℕ → Ruling
+rulingOf m l s = rulingBy m l (heardBy m s)

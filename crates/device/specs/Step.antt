@@ -1,16 +1,18 @@
 -- One message to one module ("Result numbers"): refusal 5 comes last, measured against the reply that is due.
 use Prim.Native.Nat.{ℕ}
+use mathlib.Core.Path.{_≡_}
 use mathlib.Core.List.{List, []}
 use lib.Dec.{ltb}
 use lib.ListN.{length, take, drop}
 use Rattle.basis.specs.Choice.{choose}
 use Rattle.basis.specs.Laid.{laid}
-use Rattle.links.specs.Write.{written}
+use Rattle.links.specs.Write.{writtenIn}
 use Rattle.reply.specs.Reply.{replyOf}
 use Rattle.results.specs.declared.Outcome.{Outcome}
 use Rattle.dimmer.specs.declared.state.Module.{Module}
 use Rattle.dimmer.specs.declared.plan.Write.{Write}
-use Rattle.device.specs.declared.Ruling.{Ruling}
+use Rattle.device.specs.declared.rule.Ruling.{Ruling}
+use Rattle.device.specs.declared.step.Answer.{Answer}
 use Rattle.device.specs.Ruling.{heardBy, rulingOf}
 
 -- all that comes out of a call
@@ -25,7 +27,7 @@ pub record Step : Type 0 where
 -- link memory after a write: its bytes are those from Data 6 on
 abbrev pub linksAfter : List ℕ → List ℕ → Write → List ℕ
 linksAfter l d Write.Nothing = l
-linksAfter l d (Write.Record k n) = written l k (take n (drop 5 d))
+linksAfter l d (Write.Record k n) = writtenIn l k (take n (drop 5 d))
 
 -- result 5: nothing is sent and nothing altered; the count of the search is kept
 abbrev pub shortOf : Module → List ℕ → List ℕ → Ruling → Step
@@ -42,3 +44,12 @@ finishOf m l d room r =
 
 abbrev pub stepOf : Module → List ℕ → List ℕ → List ℕ → Step
 stepOf m l s room = finishOf m l (heardBy m s .«data») room (rulingOf m l s)
+
+-- what a call promises: its answer, the link memory and the room afterwards
+pub record Promise (m : Module) (l s room : List ℕ) (answer : Answer) (links after : List ℕ) : Type 0 where
+  pub outcome : answer .outcome ≡ stepOf m l s room .outcome
+  pub sent : answer .length ≡ length (stepOf m l s room .reply)
+  pub read : answer .read ≡ stepOf m l s room .read
+  pub next : answer .next ≡ stepOf m l s room .next
+  pub memory : links ≡ stepOf m l s room .links
+  pub room-after : after ≡ stepOf m l s room .room

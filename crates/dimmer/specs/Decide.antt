@@ -7,6 +7,7 @@ use Rattle.basis.specs.Choice.{choose}
 use Rattle.wire.specs.declared.address.Address.{Address}
 use Rattle.wire.specs.declared.command.Codes.{Codes}
 use Rattle.wire.specs.declared.command.Command.{Command}
+use Rattle.wire.specs.declared.command.Turn.{Turn}
 use Rattle.wire.specs.declared.kind.Kind.{Kind}
 use Rattle.links.specs.declared.search.Wanted.{Wanted}
 use Rattle.links.specs.declared.search.Found.{Found}
@@ -26,11 +27,17 @@ abbrev pub needsNoLink : Codes → Command → Bool
 needsNoLink c (Command.Standard s) = eqb (c .one) 0x0f || eqb (c .one) 0x10
 needsNoLink c (Command.Extended e) = false
 
+abbrev pub directWanted : Address → Codes → Command → Wanted
+directWanted from c command = choose (needsNoLink c command) Wanted.Nobody (Wanted.Sender from)
+
+abbrev pub broadcastWanted : Address → Address → Turn → Wanted
+broadcastWanted from to turn = choose (calls to turn) (Wanted.Responder from (to .low)) Wanted.Nobody
+
 -- whose record the search looks for; a cleanup has its group in Command 2
 abbrev pub wantedOf : Kind → Wanted
-wantedOf (Kind.Direct from command c) = choose (needsNoLink c command) Wanted.Nobody (Wanted.Sender from)
+wantedOf (Kind.Direct from command c) = directWanted from c command
 wantedOf (Kind.Cleanup from turn c) = Wanted.Responder from (c .two)
-wantedOf (Kind.Broadcast from to turn) = choose (calls to turn) (Wanted.Responder from (to .low)) Wanted.Nobody
+wantedOf (Kind.Broadcast from to turn) = broadcastWanted from to turn
 wantedOf Kind.Foreign = Wanted.Nobody
 
 -- a direct command, with the data bytes beside it and n records in link memory

@@ -4,7 +4,7 @@ use mathlib.Core.List.{List, [], _∷_}
 use lib.Dec.{eqb}
 use lib.ListN.{getD}
 use Rattle.basis.specs.Choice.{choose}
-use Rattle.basis.specs.Table.{among, _⇒_}
+use Rattle.basis.specs.Table.{Row, among, _⇒_}
 use Rattle.basis.specs.Numbers.{within}
 use Rattle.basis.specs.Flags.{flagged}
 use Rattle.wire.specs.declared.address.Address.{Address}
@@ -25,8 +25,7 @@ use Rattle.dimmer.specs.Plan.{ack, done, acked, unlisted}
 abbrev pub dataIn : List ℕ → ℕ → ℕ
 dataIn d i = getD d (i - 1) 0
 
--- link memory has n records
-module _ (m : Module) (from : Address) (c : Codes) (d : List ℕ) (n : ℕ) where
+module _ (m : Module) (from : Address) (c : Codes) where
   abbrev pub refusal : Plan
   refusal = unlisted m Sort.Nak from (c .one)
 
@@ -35,43 +34,66 @@ module _ (m : Module) (from : Address) (c : Codes) (d : List ℕ) (n : ℕ) wher
   limited a b x next = choose (within a b x) (acked from c next) refusal
 
   -- 20: Command 2 is a flag's code, 00 to 0F
-  unfoldable pub flagsPlan : Plan
+  abbrev pub flagsPlan : Plan
   flagsPlan = limited 0x00 0x0f (c .two) (withFlags (flagged (c .two) (m .flags)) m)
 
+  -- Get Properties
+  abbrev pub shownPlan : ℕ → Plan
+  shownPlan data1 = done m (Due.WithProperties (ack from c) data1 (m .properties))
+
+  -- Set Database of record k: 1 to 8 bytes, from Data 6 on, go over its first ones
+  unfoldable pub writtenPlan : ℕ → ℕ → Plan
+  writtenPlan k n =
+      choose (within 1 8 n)
+      (record { outcome = Outcome.Done; next = withNextDelta m; due = Due.Alone (ack from c); write = Write.Record k n })
+      refusal
+
+-- with the data bytes
+module _ (m : Module) (from : Address) (c : Codes) (d : List ℕ) where
   -- 2E: Data 2 says what is asked for
-  unfoldable pub propertiesPlan : Plan
-  propertiesPlan =
-      among (dataIn d 2) refusal
-      (0x00 ⇒ done m (Due.WithProperties (ack from c) (dataIn d 1) (m .properties)) ∷
+  abbrev pub propertyRows : List (Row Plan)
+  propertyRows =
+      0x00 ⇒ shownPlan m from c (dataIn d 1) ∷
       0x04 ⇒ acked from c (withX10 (dataIn d 3) (dataIn d 4) m) ∷
-      0x05 ⇒ limited 0x00 0x1f (dataIn d 3) (withRamp (dataIn d 3) m) ∷
+      0x05 ⇒ limited m from c 0x00 0x1f (dataIn d 3) (withRamp (dataIn d 3) m) ∷
       0x06 ⇒ acked from c (withOnLevel (dataIn d 3) m) ∷
-      0x07 ⇒ limited 0x11 0x7f (dataIn d 3) (withLed (dataIn d 3) m) ∷
-      [])
+      0x07 ⇒ limited m from c 0x11 0x7f (dataIn d 3) (withLed (dataIn d 3) m) ∷
+      []
 
-  -- 2F: the record that Data 3 and 4 name
-  unfoldable pub place : Place
-  place = placeOf n (dataIn d 3 * 256 + dataIn d 4)
+  unfoldable pub propertyPlan : Plan
+  propertyPlan = among (dataIn d 2) (refusal m from c) propertyRows
 
-  -- Data 2 = 00: send records from k on, Data 5 at most
+  -- it needs Command 2 = 00
+  unfoldable pub propertiesPlan : Plan
+  propertiesPlan = choose (eqb (c .two) 0x00) propertyPlan (refusal m from c)
+
+  -- 2F, Data 2 = 00: records are sent from k on, Data 5 at most
   abbrev pub getPlan : Place → Plan
   getPlan (Place.Record k) = done m (Due.WithRecords (ack from c) (dataIn d 1) k (dataIn d 5))
-  getPlan Place.Illegal = refusal
+  getPlan Place.Illegal = refusal m from c
 
-  -- Data 2 = 02: Data 5 = 1 to 8 bytes, from Data 6 on, go over the first bytes of record k
+  -- Data 2 = 02: Data 5 bytes are written
   abbrev pub setPlan : Place → Plan
-  setPlan (Place.Record k) =
-      choose (within 1 8 (dataIn d 5))
-      (record { outcome = Outcome.Done; next = withNextDelta m; due = Due.Alone (ack from c); write = Write.Record k (dataIn d 5) })
-      refusal
-  setPlan Place.Illegal = refusal
+  setPlan (Place.Record k) = writtenPlan m from c k (dataIn d 5)
+  setPlan Place.Illegal = refusal m from c
 
-  unfoldable pub databasePlan : Plan
-  databasePlan = among (dataIn d 2) refusal (0x00 ⇒ getPlan place ∷ 0x02 ⇒ setPlan place ∷ [])
+  abbrev pub recordRows : Place → List (Row Plan)
+  recordRows place =
+      0x00 ⇒ getPlan place ∷
+      0x02 ⇒ setPlan place ∷
+      []
 
-  -- 2E and 2F need Command 2 = 00
-  abbrev pub extendedPlan : Extended → Plan
-  extendedPlan Extended.SetFlags = flagsPlan
-  extendedPlan Extended.Properties = choose (eqb (c .two) 0x00) propertiesPlan refusal
-  extendedPlan Extended.Database = choose (eqb (c .two) 0x00) databasePlan refusal
-  extendedPlan Extended.Unlisted = refusal
+  -- of the record, of n, that Data 3 and 4 name
+  unfoldable pub recordPlan : ℕ → Plan
+  recordPlan n = among (dataIn d 2) (refusal m from c) (recordRows (placeOf n (dataIn d 3 * 256 + dataIn d 4)))
+
+  -- it needs Command 2 = 00
+  unfoldable pub databasePlan : ℕ → Plan
+  databasePlan n = choose (eqb (c .two) 0x00) (recordPlan n) (refusal m from c)
+
+  -- link memory has n records
+  abbrev pub extendedPlan : ℕ → Extended → Plan
+  extendedPlan n Extended.SetFlags = flagsPlan m from c
+  extendedPlan n Extended.Properties = propertiesPlan
+  extendedPlan n Extended.Database = databasePlan n
+  extendedPlan n Extended.Unlisted = refusal m from c

@@ -36,8 +36,8 @@ abbrev pub broadcastPlan : Module → Turn → Found → Plan
 broadcastPlan m turn found = ifFound found (groupBy m Due.Nothing (unconcerned m) turn) (unconcerned m)
 
 -- a cleanup is ACKed with both commands; no record gives 6, then Command 1 outside 11 to 14 gives 7
+abbrev pub cleanupBy : Module → Address → Codes → Turn → Link → Plan
+cleanupBy m from c turn link = groupBy m (Due.Alone (headed Sort.CleanupAck from (c .one) (c .two))) (unlisted m Sort.CleanupNak from (c .one)) turn link
+
 abbrev pub cleanupPlan : Module → Address → Codes → Turn → Found → Plan
-cleanupPlan m from c turn found =
-    ifFound found
-    (groupBy m (Due.Alone (headed Sort.CleanupAck from (c .one) (c .two))) (unlisted m Sort.CleanupNak from (c .one)) turn)
-    (unlinked m Sort.CleanupNak from (c .one))
+cleanupPlan m from c turn found = ifFound found (cleanupBy m from c turn) (unlinked m Sort.CleanupNak from (c .one))

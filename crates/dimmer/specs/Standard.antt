@@ -1,9 +1,9 @@
 -- "Direct commands, standard".
 use Prim.Native.Nat.{ℕ, _+_, _-_, _*_, _/_, min}
-use mathlib.Core.List.{[], _∷_}
+use mathlib.Core.List.{List, [], _∷_}
 use lib.Dec.{leb}
 use Rattle.basis.specs.Choice.{choose}
-use Rattle.basis.specs.Table.{among, _⇒_}
+use Rattle.basis.specs.Table.{Row, among, _⇒_}
 use Rattle.wire.specs.declared.address.Address.{Address}
 use Rattle.wire.specs.declared.command.Codes.{Codes}
 use Rattle.wire.specs.declared.command.Standard.{Standard}
@@ -33,25 +33,34 @@ percentOf level = (100 * level + 127) / 255
 abbrev pub levelOf : ℕ → ℕ
 levelOf p = (255 * p + 50) / 100
 
--- category, subcategory and firmware, in the place of an address
+-- in the place of an address
 abbrev pub idOf : Identity → Address
 idOf i = record { high = i .category; middle = i .subcategory; low = i .firmware }
 
 module _ (m : Module) (from : Address) (c : Codes) where
-  -- 19 and 1F: Command 2 says what is asked for
-  unfoldable pub statusPlan : Plan
-  statusPlan =
-      among (c .two) (unlisted m Sort.Nak from (c .one))
-      (0x00 ⇒ answered from (m .delta) (m .level) m ∷
+  -- 10: category, subcategory and firmware stand in the place of an address
+  abbrev pub idPlan : Plan
+  idPlan = done m (Due.WithId (ack from c) (idOf (m .identity)) (m .identity .revision))
+
+  -- 19: Command 2 says what is asked for
+  abbrev pub statuses : List (Row Plan)
+  statuses =
+      0x00 ⇒ answered from (m .delta) (m .level) m ∷
       0x06 ⇒ answered from (m .delta) (percentOf (m .level)) m ∷
-      [])
+      []
+
+  unfoldable pub statusPlan : Plan
+  statusPlan = among (c .two) (unlisted m Sort.Nak from (c .one)) statuses
+
+  -- 1F: the same
+  abbrev pub flagBytes : List (Row Plan)
+  flagBytes =
+      0x00 ⇒ answered from (c .one) (m .flags) m ∷
+      0x01 ⇒ answered from (c .one) (m .delta) m ∷
+      []
 
   unfoldable pub readFlagsPlan : Plan
-  readFlagsPlan =
-      among (c .two) (unlisted m Sort.Nak from (c .one))
-      (0x00 ⇒ answered from (c .one) (m .flags) m ∷
-      0x01 ⇒ answered from (c .one) (m .delta) m ∷
-      [])
+  readFlagsPlan = among (c .two) (unlisted m Sort.Nak from (c .one)) flagBytes
 
   -- 39: Command 2 in 00 to 64
   unfoldable pub percentPlan : Plan
@@ -60,7 +69,7 @@ module _ (m : Module) (from : Address) (c : Codes) where
   -- what the command does to the module m, and the ACK to its sender: it repeats both commands unless stated
   abbrev pub standardPlan : Standard → Plan
   standardPlan Standard.Ping = acked from c m
-  standardPlan Standard.IdRequest = done m (Due.WithId (ack from c) (idOf (m .identity)) (m .identity .revision))
+  standardPlan Standard.IdRequest = idPlan
   standardPlan Standard.EngineVersion = answered from (c .one) 0x02 m
   standardPlan Standard.On = acked from c (withLevel (c .two) m)
   standardPlan Standard.OnFast = acked from c (withLevel (c .two) m)

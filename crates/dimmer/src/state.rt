@@ -2,7 +2,7 @@
 use reply::due::Properties;
 use wire::address::Address;
 ghost use mathlib.Core.Path.{_≡_};
-ghost use Rattle.dimmer.specs.Module.{freshOf};
+ghost use Rattle.dimmer.specs.Module.{freshOf, withLevel, withFlags, withProperties, withX10, withRamp, withOnLevel, withLed, withNextDelta};
 
 pub struct Identity {
     pub address: Address,
@@ -56,5 +56,67 @@ impl Module {
             },
             delta: FRESH_DELTA,
         }
+    }
+
+    pub(crate) fn with_level(mut self, level: u8) -> Module
+        ensures { λ r. ⌜ r ≡ withLevel level self ⌝ }
+    {
+        self.level = level;
+        self
+    }
+
+    pub(crate) fn with_flags(mut self, flags: u8) -> Module
+        ensures { λ r. ⌜ r ≡ withFlags flags self ⌝ }
+    {
+        self.flags = flags;
+        self
+    }
+
+    pub(crate) fn with_properties(mut self, properties: Properties) -> Module
+        ensures { λ r. ⌜ r ≡ withProperties properties self ⌝ }
+    {
+        self.properties = properties;
+        self
+    }
+
+    pub(crate) fn with_x10(self, house: u8, unit: u8) -> Module
+        ensures { λ r. ⌜ r ≡ withX10 house unit self ⌝ }
+    {
+        let mut p = self.properties;
+        p.house = house;
+        p.unit = unit;
+        self.with_properties(p)
+    }
+
+    pub(crate) fn with_ramp(self, ramp: u8) -> Module
+        ensures { λ r. ⌜ r ≡ withRamp ramp self ⌝ }
+    {
+        let mut p = self.properties;
+        p.ramp = ramp;
+        self.with_properties(p)
+    }
+
+    pub(crate) fn with_on_level(self, on_level: u8) -> Module
+        ensures { λ r. ⌜ r ≡ withOnLevel «on_level» self ⌝ }
+    {
+        let mut p = self.properties;
+        p.on_level = on_level;
+        self.with_properties(p)
+    }
+
+    pub(crate) fn with_led(self, led: u8) -> Module
+        ensures { λ r. ⌜ r ≡ withLed led self ⌝ }
+    {
+        let mut p = self.properties;
+        p.led = led;
+        self.with_properties(p)
+    }
+
+    // The delta goes up by 1, FF to 00.
+    pub(crate) fn with_next_delta(mut self) -> Module
+        ensures { λ r. ⌜ r ≡ withNextDelta self ⌝ }
+    {
+        self.delta = ((self.delta as u32 + 1) % 256) as u8;
+        self
     }
 }

@@ -1,14 +1,14 @@
 -- What a write leaves: every other record, the length, and who is linked.
 use Prim.Native.Nat.{ℕ, _+_, _-_, _*_, _≤_, _<_}
 use mathlib.Core.Path.{_≡_, refl, sym, _∙_, ap, fun-ext, transport}
-use mathlib.Core.Bool.{Bool, true, false}
+use mathlib.Core.Bool.{Bool, true, false, _&&_}
 use mathlib.Core.Logic.{_↔_}
 use mathlib.Core.List.{List}
 use native.Mathlib.Omega.{arith}
 use lib.Dec.{eqb, ltb}
 use lib.ListN.{length, getD, drop, length-append, length-drop, List·getD-append}
 use lib.Seq.{getD-append-add, getD-drop}
-use borrow.Author.Tests.{eqb-true, eqb-false, ltb-true, ltb-false}
+use borrow.Author.Tests.{eqb-true, eqb-false, ltb-true, ltb-false, lt-ltb, le-leb, lt-leb}
 use Rattle.basis.specs.Choice.{choose}
 use Rattle.basis.specs.Laid.{laid}
 use Rattle.basis.proofs.Spelled.{spelled}
@@ -16,7 +16,20 @@ use Rattle.basis.proofs.Over.{length-over, before, inside, behind}
 use Rattle.wire.specs.declared.address.Address.{Address}
 use Rattle.links.specs.Record.{records, recordAt}
 use Rattle.links.specs.Live.{LinkedOf, Linked}
-use Rattle.links.specs.Write.{written, afterWrite}
+use Rattle.links.specs.Write.{written, writtenIn, afterWrite}
+
+-- a write of more than eight bytes is none, and one of fewer to a record that is there is as it says
+pub too-many : (l : List ℕ) (k : ℕ) (bytes : List ℕ) → 8 < length bytes → writtenIn l k bytes ≡ l
+unfolding writtenIn choose
+too-many l k bytes h = rw (lt-leb (length bytes) 8 h) (go (ltb k (records l)))
+  where
+    go : (t : Bool) → choose (t && false) (written l k bytes) l ≡ l
+    go true = refl
+    go false = refl
+
+pub legal : (l : List ℕ) (k : ℕ) (bytes : List ℕ) → k < records l → length bytes ≤ 8 → writtenIn l k bytes ≡ written l k bytes
+unfolding writtenIn choose
+legal l k bytes h g = rw (lt-ltb k (records l) h, le-leb (length bytes) 8 g)
 
 module _ (l : List ℕ) (k : ℕ) (bytes : List ℕ) (few : length bytes ≤ 8) (there : k * 8 + 8 ≤ length l) where
   room : k * 8 + length bytes ≤ length l

@@ -1,0 +1,2 @@
+-- Laws of a call.
+pub mod Finished

@@ -1,0 +1,16 @@
+use borrow.Author.Tests.{eq-eqb, ne-eqb}
+use Rattle.basis.specs.Choice.{choose}
+use Rattle.dimmer.specs.Extended.{databasePlan}
+use borrow.Author.Needs.{needs}
+use Rattle.dimmer.proofs.extended.database_plan.Statement.{statement}
+use Rattle.dimmer.proofs.extended.database_plan.Tie as tie
+
+pub database-plan-spec : {M : Type 1} → statement M
+unfolding databasePlan choose
+database-plan-spec =
+    tie.close
+    (tie.spec
+    (λ c κs. search needs)
+    (λ c κs. search needs)
+    (λ c. rw (eq-eqb _ 0 (c .before .if1 .taken)) (c .record-plan .ensures))
+    (λ c. rw (ne-eqb _ 0 (c .before .if1 .left)) (c .unlisted .ensures)))

@@ -1,0 +1,20 @@
+use mathlib.Core.Path.{sym, _∙_}
+use Rattle.basis.proofs.Table.{missed}
+use Rattle.basis.specs.Choice.{choose}
+use Rattle.dimmer.specs.Standard.{statuses, statusPlan}
+use borrow.Author.Needs.{needs}
+use Rattle.dimmer.proofs.standard.status_plan.Statement.{statement}
+use Rattle.dimmer.proofs.standard.status_plan.Tie as tie
+
+pub status-plan-spec : {M : Type 1} → statement M
+unfolding statusPlan choose
+status-plan-spec =
+    tie.close
+    (tie.spec
+    (search needs)
+    (search needs)
+    (search needs)
+    (search needs)
+    (λ c. rw (c .before .match .keys1) (c .answered .ensures))
+    (λ c. rw (c .before .before .match .keys2) (rw (c .before .percent-of .ensures) at (c .answered2 .ensures)))
+    (λ c. let g = c .before .before .args in c .unlisted .ensures ∙ sym (missed (g .c .two) _ (statuses (g .m) (g .from) (g .c)) (c .before .match .rest))))

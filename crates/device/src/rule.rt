@@ -2,7 +2,7 @@
 use dimmer::decide::plan_of;
 use dimmer::decide::wanted_of;
 use dimmer::plan::Plan;
-use dimmer::plan::refused;
+use dimmer::plan::Write;
 use dimmer::state::Module;
 use links::memory::is_fit;
 use links::memory::size;
@@ -60,9 +60,13 @@ fn rule_kind(m: Module, links: &[u8], kind: Kind, data: [u8; 14]) -> Ruling
 fn silence(m: Module, outcome: Outcome) -> Ruling
     ensures { λ r. ⌜ r ≡ silent m outcome ⌝ }
 {
-    let plan = refused(m, outcome, Due::Nothing);
     Ruling {
-        plan: plan,
+        plan: Plan {
+            outcome: outcome,
+            next: m,
+            due: Due::Nothing,
+            write: Write::Nothing,
+        },
         read: 0,
     }
 }

@@ -68,7 +68,7 @@ pub(crate) fn answered(to: Address, one: u8, two: u8, next: Module) -> Plan
 }
 
 // Refused: the module stays as it was.
-pub fn refused(m: Module, outcome: Outcome, due: Due) -> Plan
+pub(crate) fn refused(m: Module, outcome: Outcome, due: Due) -> Plan
     ensures { λ r. ⌜ r ≡ refused m outcome due ⌝ }
 {
     Plan {

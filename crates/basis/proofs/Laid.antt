@@ -1,6 +1,6 @@
 -- Bytes laid one after another: the remaining part of a room, lent and back.
 use Prim.Native.Nat.{ℕ, _+_, _-_, _≤_, _<_}
-use mathlib.Core.Path.{_≡_, refl, sym, _∙_, ap}
+use mathlib.Core.Path.{_≡_, sym, _∙_, ap}
 use mathlib.Core.List.{List, _++_, append-assoc, append-nil}
 use native.Mathlib.Nat.{zero-add, le-of-eq, add-assoc}
 use native.Mathlib.Numerals.{add-one}

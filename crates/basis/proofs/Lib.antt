@@ -1,5 +1,6 @@
--- Laws of tests, tables, first positions, lists and laid bytes.
+-- Laws of tests, choices, tables, first positions, lists and laid bytes.
 pub mod Tests
+pub mod Choice
 pub mod Table
 pub mod First
 pub mod Spelled

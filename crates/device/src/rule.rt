@@ -14,7 +14,7 @@ use wire::kind::Kind;
 use wire::kind::Message;
 use wire::kind::Reading;
 ghost use mathlib.Core.Path.{_≡_};
-ghost use Rattle.device.specs.Ruling.{silent, kindRuling, readRuling, rulingOf, rulingBy};
+ghost use Rattle.device.specs.Ruling.{silent, kindRuling, readRuling, rulingBy};
 
 // The plan, and how many records were read for it.
 pub struct Ruling {

@@ -1,7 +1,7 @@
 -- Who is linked, and what a search of theirs finds.
 use Prim.Native.Nat.{ℕ}
 use mathlib.Core.Path.{_≡_, refl}
-use mathlib.Core.Bool.{Bool, true, _&&_}
+use mathlib.Core.Bool.{true, _&&_}
 use mathlib.Core.List.{List}
 use Rattle.basis.proofs.Tests.{both}
 use Rattle.wire.specs.declared.address.Address.{Address}

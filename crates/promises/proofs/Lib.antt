@@ -1,2 +1,7 @@
 -- Proofs of what is promised.
 pub mod Examples
+pub mod Demand1
+pub mod Demand2
+pub mod OneAnswer
+pub mod Legal
+pub mod Room

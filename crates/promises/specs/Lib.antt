@@ -4,3 +4,8 @@ pub mod Table
 pub mod Examples
 pub mod Refusals
 pub mod Sequence
+pub mod Demand1
+pub mod Demand2
+pub mod OneAnswer
+pub mod Legal
+pub mod Room

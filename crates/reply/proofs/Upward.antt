@@ -1,6 +1,6 @@
 -- Records sent one after another.
 use Prim.Native.Nat.{ℕ, zero, suc, pred, _+_, _*_, _<_}
-use mathlib.Core.Path.{_≡_, refl, _∙_, ap}
+use mathlib.Core.Path.{_≡_, refl, _∙_}
 use mathlib.Core.List.{List, [], _++_}
 use native.Mathlib.Omega.{arith}
 use lib.ListN.{length, length-append}

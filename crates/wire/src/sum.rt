@@ -1,6 +1,5 @@
 // The checksum of an extended message, as the notes work it: complement the column's sum, and add one.
 ghost use mathlib.Core.Path.{_≡_};
-ghost use mathlib.Core.Bool.{not};
 ghost use lib.ListN.{length};
 ghost use Rattle.wire.specs.Checksum.{sums, exempt};
 

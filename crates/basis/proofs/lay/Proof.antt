@@ -5,15 +5,12 @@ use mathlib.Core.List.{_++_}
 use native.Mathlib.Omega.{arith}
 use lib.ListN.{length, take, drop, length-set}
 use lib.Seq.{take-all}
-use borrow.Author.Needs.{needs}
 use borrow.Author.Tests.{lt-ltb}
 use Rattle.basis.specs.Choice.{choose}
 use Rattle.basis.specs.Laid.{laidIn}
 use Rattle.basis.proofs.Laid.{fits, copied}
 use Rattle.basis.proofs.lay.Statement.{statement}
 use Rattle.basis.proofs.lay.Tie as tie
-use Rattle.basis.proofs.lay.Reads as reads
-use Rattle.basis.proofs.lay.Lts as lts
 
 abbrev Inv-loop : tie.InvT-loop
 Inv-loop room₀ bytes i₀ room i = (i ≤ length bytes) × (room ≡ take i bytes ++ drop i room₀) × (length room ≡ length room₀)

@@ -1,8 +1,6 @@
 use borrow.Author.Needs.{needs}
 use Rattle.links.proofs.search.search.Statement.{statement}
 use Rattle.links.proofs.search.search.Tie as tie
-use Rattle.links.proofs.search.search.Reads as reads
-use Rattle.links.proofs.search.search.Lts as lts
 
 pub search-spec : {M : Type 1} → statement M
 search-spec =

@@ -1,5 +1,5 @@
 -- What is left to search from record i on stops where the whole search stops.
-use Prim.Native.Nat.{ℕ, pred, _≤_, _-_, _+_, _/_}
+use Prim.Native.Nat.{pred, _≤_, _-_, _+_, _/_}
 use mathlib.Core.Path.{_≡_, sym, _∙_}
 use mathlib.Core.Bool.{true, false}
 use native.Mathlib.Nat.{sub-zero}
@@ -13,8 +13,6 @@ use Rattle.links.specs.Search.{matches, settlesAt, stopOf}
 use Rattle.links.proofs.Stop.{at-memory, at-end, at-match}
 use Rattle.links.proofs.search.walk.Statement.{statement}
 use Rattle.links.proofs.search.walk.Tie as tie
-use Rattle.links.proofs.search.walk.Reads as reads
-use Rattle.links.proofs.search.walk.Lts as lts
 
 abbrev Inv-loop : tie.InvT-loop
 Inv-loop links wanted n i₀ i = (i ≤ n) × (firstFrom (settlesAt links wanted) (n - i) i ≡ stopOf links wanted)

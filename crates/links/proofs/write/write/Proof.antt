@@ -9,8 +9,6 @@ use Rattle.links.specs.Record.{records}
 use Rattle.links.specs.Write.{writtenIn}
 use Rattle.links.proofs.write.write.Statement.{statement}
 use Rattle.links.proofs.write.write.Tie as tie
-use Rattle.links.proofs.write.write.Reads as reads
-use Rattle.links.proofs.write.write.Lts as lts
 
 returns : tie.Need-returns
 unfolding writtenIn choose

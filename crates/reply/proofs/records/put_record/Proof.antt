@@ -1,12 +1,8 @@
-use Prim.Native.Nat.{ℕ, _/_, _%_}
 use mathlib.Core.Path.{_∙_}
-use native.Mathlib.Omega.{arith}
 use borrow.Author.Needs.{needs}
 use Rattle.links.proofs.Taken.{taken}
 use Rattle.reply.proofs.records.put_record.Statement.{statement}
 use Rattle.reply.proofs.records.put_record.Tie as tie
-use Rattle.reply.proofs.records.put_record.Reads as reads
-use Rattle.reply.proofs.records.put_record.Lts as lts
 
 returns : tie.Need-returns
 returns c =

@@ -5,15 +5,12 @@ use mathlib.Core.List.{List, [], _++_}
 use native.Mathlib.Nat.{sub-zero, add-zero}
 use native.Mathlib.Omega.{arith}
 use lib.ListN.{length, take, drop, take-append-drop}
-use borrow.Author.Needs.{needs}
 use Rattle.basis.specs.Laid.{laid}
 use Rattle.basis.proofs.Laid.{fits, turn}
 use Rattle.reply.specs.Records.{recordMessage, recordsFrom}
 use Rattle.reply.proofs.Upward.{none, more, length-records}
 use Rattle.reply.proofs.records.put_records.Statement.{statement}
 use Rattle.reply.proofs.records.put_records.Tie as tie
-use Rattle.reply.proofs.records.put_records.Reads as reads
-use Rattle.reply.proofs.records.put_records.Lts as lts
 
 abbrev Inv-loop : tie.InvT-loop
 Inv-loop room₀ own to data1 links k n i₀ room i =

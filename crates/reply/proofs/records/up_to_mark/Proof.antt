@@ -1,6 +1,6 @@
 -- The first end mark of those that are left is the first of all.
-use Prim.Native.Nat.{ℕ, pred, min, _≤_, _<_, _-_, _+_}
-use mathlib.Core.Path.{_≡_, sym, _∙_, ap}
+use Prim.Native.Nat.{ℕ, pred, min, _≤_, _-_, _+_}
+use mathlib.Core.Path.{_≡_, sym, _∙_}
 use mathlib.Core.Bool.{true, false}
 use mathlib.Core.List.{List}
 use native.Mathlib.Nat.{sub-zero, add-zero}
@@ -8,13 +8,10 @@ use native.Mathlib.Omega.{arith}
 use borrow.Author.Needs.{needs}
 use Rattle.basis.specs.First.{firstFrom}
 use Rattle.basis.proofs.First.{none, here, later}
-use Rattle.links.specs.Record.{recordAt}
 use Rattle.links.proofs.Taken.{taken}
 use Rattle.reply.specs.Records.{markAt, upToMark}
 use Rattle.reply.proofs.records.up_to_mark.Statement.{statement}
 use Rattle.reply.proofs.records.up_to_mark.Tie as tie
-use Rattle.reply.proofs.records.up_to_mark.Reads as reads
-use Rattle.reply.proofs.records.up_to_mark.Lts as lts
 
 abbrev Inv-loop : tie.InvT-loop
 Inv-loop links k n i₀ i = (i ≤ n) × (firstFrom (markAt links) (n - i) (k + i) ≡ firstFrom (markAt links) n k)

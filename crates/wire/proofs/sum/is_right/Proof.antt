@@ -10,8 +10,6 @@ use Rattle.wire.specs.Checksum.{sumOf}
 use Rattle.wire.proofs.Complement.{complement}
 use Rattle.wire.proofs.sum.is_right.Statement.{statement}
 use Rattle.wire.proofs.sum.is_right.Tie as tie
-use Rattle.wire.proofs.sum.is_right.Reads as reads
-use Rattle.wire.proofs.sum.is_right.Lts as lts
 
 abbrev Inv-loop : tie.InvT-loop
 Inv-loop message sum₀ i₀ sum i = (i ≤ 22) × (sum ≤ 255 * i) × (sum + sumOf (drop i message) ≡ sumOf (drop 7 message))

@@ -1,0 +1,15 @@
+-- What holds of both arms holds of a choice.
+use mathlib.Core.Path.{_≡_, refl}
+use mathlib.Core.Bool.{Bool, true, false}
+use Rattle.basis.specs.Choice.{choose}
+
+pub either : {A : Type 0} (P : A → Type 0) (b : Bool) {x y : A} → P x → P y → P (choose b x y)
+unfolding choose
+either P true p q = p
+either P false p q = q
+
+-- with what the test says
+pub by : {A : Type 0} (P : A → Type 0) (b : Bool) {x y : A} → (b ≡ true → P x) → (b ≡ false → P y) → P (choose b x y)
+unfolding choose
+by P true p q = p refl
+by P false p q = q refl

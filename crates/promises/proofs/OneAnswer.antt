@@ -1,0 +1,56 @@
+-- One answer only, by one law.
+use Prim.Native.Nat.{ℕ}
+use mathlib.Core.Path.{_≡_, sym, _∙_}
+use mathlib.Core.List.{List}
+use Rattle.wire.specs.declared.address.Address.{Address}
+use Rattle.reply.specs.declared.due.Due.{Due}
+use Rattle.reply.specs.Sending.{Sending}
+use Rattle.dimmer.specs.declared.state.Module.{Module}
+use Rattle.device.specs.Step.{Promise}
+use Rattle.promises.specs.OneAnswer.{Only, Delivered, Called, EachOnce}
+
+-- a promise that says what its result is equal to
+by-value : {A : Type 0} (z : A) → Only (λ (r : A). r ≡ z)
+by-value z x y p q = p ∙ sym q
+
+sending : (own : Address) (l : List ℕ) (due : Due) (room : List ℕ) → Only (λ (d : Delivered). Sending own l due room (d .answer) (d .room))
+sending own l due room x y p q = λ i. record { answer = by-value _ _ _ (p .answers) (q .answers) i; room = by-value _ _ _ (p .leaves) (q .leaves) i }
+
+stepping : (m : Module) (l s room : List ℕ) → Only (λ (d : Called). Promise m l s room (d .answer) (d .links) (d .room))
+stepping m l s room x y p q =
+    λ i.
+    record {
+      answer = record { outcome = by-value _ _ _ (p .outcome) (q .outcome) i; length = by-value _ _ _ (p .sent) (q .sent) i; read = by-value _ _ _ (p .read) (q .read) i; next = by-value _ _ _ (p .next) (q .next) i };
+      links = by-value _ _ _ (p .memory) (q .memory) i;
+      room = by-value _ _ _ (p .room-after) (q .room-after) i;
+    }
+
+pub each-once : EachOnce
+each-once =
+    record {
+      lay = λ _ _. by-value _;
+      equals = λ _ _. by-value _;
+      read-standard = λ _. by-value _;
+      read-extended = λ _. by-value _;
+      read-turn = λ _. by-value _;
+      read = λ _ _. by-value _;
+      is-fit = λ _. by-value _;
+      size = λ _. by-value _;
+      take-record = λ _ _. by-value _;
+      is-end = λ _. by-value _;
+      search-links = λ _ _. by-value _;
+      read-by = λ _. by-value _;
+      name-of = λ _. by-value _;
+      place-of = λ _ _. by-value _;
+      write = λ _ _ _. by-value _;
+      put-standard = λ _ _ _ _ _ _. by-value _;
+      put-extended = λ _ _ _ _ _. by-value _;
+      size-of = λ _ _. by-value _;
+      send = sending;
+      number = λ _. by-value _;
+      fresh = λ _. by-value _;
+      wanted-of = λ _. by-value _;
+      plan-of = λ _ _ _ _ _. by-value _;
+      rule = λ _ _ _. by-value _;
+      step = stepping;
+    }

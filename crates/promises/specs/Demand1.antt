@@ -1,0 +1,38 @@
+-- Demand 1: every message gets one of the numbered results, and a refusal alters nothing.
+use Prim.Native.Nat.{ℕ}
+use mathlib.Core.Path.{_≡_}
+use mathlib.Core.Bool.{true, _||_}
+use mathlib.Core.List.{List, []}
+use lib.Dec.{eqb}
+use Rattle.basis.specs.Choice.{choose}
+use Rattle.basis.specs.Laid.{laid}
+use Rattle.basis.specs.Numbers.{within}
+use Rattle.wire.specs.Bytes.{fromOf, codesOf}
+use Rattle.wire.specs.Kinds.{cleanup}
+use Rattle.reply.specs.declared.due.Sort.{Sort}
+use Rattle.reply.specs.Message.{standard}
+use Rattle.results.specs.Number.{numberOf}
+use Rattle.dimmer.specs.declared.state.Module.{Module}
+use Rattle.device.specs.Step.{Step}
+
+-- the stated NAK: to the sender, with Command 1 repeated
+abbrev pub nakOf : Module → List ℕ → ℕ → List ℕ
+nakOf m s two = standard (m .identity .address) (fromOf s) (choose (cleanup s) Sort.CleanupNak Sort.Nak) (codesOf s .one) two
+
+-- neither module nor link memory is altered
+pub record Unaltered (m : Module) (l : List ℕ) (t : Step) : Type 0 where
+  pub same-module : t .next ≡ m
+  pub same-links : t .links ≡ l
+
+-- these bytes are sent, and the room holds them and its old rest
+pub record Sends (room bytes : List ℕ) (t : Step) : Type 0 where
+  pub reply : t .reply ≡ bytes
+  pub room-after : t .room ≡ laid bytes room
+
+-- what each number means for module, link memory and room
+pub data Fate (m : Module) (l s room : List ℕ) (t : Step) : Type 0 where
+  carried-out : numberOf (t .outcome) ≡ 0 → Fate m l s room t
+  -- 1 to 5, and 8: nothing is sent
+  silent : within 1 5 (numberOf (t .outcome)) || eqb (numberOf (t .outcome)) 8 ≡ true → Unaltered m l t → Sends room [] t → Fate m l s room t
+  not-linked : numberOf (t .outcome) ≡ 6 → Unaltered m l t → Sends room (nakOf m s 0xff) t → Fate m l s room t
+  not-listed : numberOf (t .outcome) ≡ 7 → Unaltered m l t → Sends room (nakOf m s 0xfb) t → Fate m l s room t

@@ -1,0 +1,23 @@
+-- Room enough ("Result numbers", "The program").
+use Prim.Native.Nat.{ℕ, _≤_, _<_}
+use mathlib.Core.Path.{_≡_}
+use mathlib.Core.List.{List}
+use mathlib.Core.Logic.{_↔_}
+use lib.ListN.{length}
+use Rattle.reply.specs.Reply.{replyOf}
+use Rattle.results.specs.Number.{numberOf}
+use Rattle.dimmer.specs.declared.state.Module.{Module}
+use Rattle.device.specs.Ruling.{rulingOf}
+use Rattle.device.specs.Step.{stepOf}
+
+-- the reply that is due to a message, whatever the room
+abbrev pub dueTo : Module → List ℕ → List ℕ → List ℕ
+dueTo m l s = replyOf (m .identity .address) l (rulingOf m l s .plan .due)
+
+-- the room's length alone decides 5
+abbrev pub DecidesFive : Type 0
+DecidesFive = (m : Module) (l s room : List ℕ) → (numberOf (stepOf m l s room .outcome) ≡ 5) ↔ (length room < length (dueTo m l s))
+
+-- 5,897 bytes hold every reply
+abbrev pub AlwaysEnough : Type 0
+AlwaysEnough = (m : Module) (l s : List ℕ) → length (dueTo m l s) ≤ 5897

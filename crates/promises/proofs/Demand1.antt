@@ -1,5 +1,5 @@
 -- Demand 1, for every module, link memory, message and room of every length.
-use Prim.Native.Nat.{ℕ, _+_, _*_, _≤_}
+use Prim.Native.Nat.{ℕ, _≤_}
 use mathlib.Core.Path.{_≡_, refl}
 use mathlib.Core.Bool.{true, false, _||_}
 use mathlib.Core.List.{List}
@@ -8,12 +8,9 @@ use native.Mathlib.Omega.{arith}
 use borrow.Author.Tests.{eqb-true}
 use Rattle.basis.specs.Choice.{choose}
 use Rattle.basis.specs.Numbers.{within}
-use Rattle.basis.specs.Table.{among}
 use Rattle.basis.proofs.Choice.{either, by}
 use Rattle.wire.specs.declared.address.Address.{Address}
 use Rattle.wire.specs.declared.command.Codes.{Codes}
-use Rattle.wire.specs.declared.command.Standard.{Standard}
-use Rattle.wire.specs.declared.command.Extended.{Extended}
 use Rattle.wire.specs.declared.command.Command.{Command}
 use Rattle.wire.specs.declared.command.Turn.{Turn}
 use Rattle.wire.specs.declared.kind.Kind.{Kind}
@@ -24,8 +21,6 @@ use Rattle.wire.specs.Kinds.{typeOf, direct, cleanup, foreign, kindOf}
 use Rattle.wire.specs.Checksum.{sumWrong}
 use Rattle.wire.specs.Reading.{readOf}
 use Rattle.links.specs.declared.search.Found.{Found}
-use Rattle.links.specs.declared.name.Place.{Place}
-use Rattle.links.specs.Name.{placeOf}
 use Rattle.links.specs.Record.{fit}
 use Rattle.links.specs.Search.{searchOf, ifFound}
 use Rattle.reply.specs.declared.due.Sort.{Sort}
@@ -35,9 +30,9 @@ use Rattle.results.specs.declared.Outcome.{Outcome}
 use Rattle.results.specs.Number.{numberOf}
 use Rattle.dimmer.specs.declared.state.Module.{Module}
 use Rattle.dimmer.specs.declared.plan.Plan.{Plan}
-use Rattle.dimmer.specs.Plan.{refused, unlinked, unlisted}
-use Rattle.dimmer.specs.Standard.{statusPlan, readFlagsPlan, percentPlan, standardPlan}
-use Rattle.dimmer.specs.Extended.{dataIn, limited, writtenPlan, recordRows, propertyPlan, propertiesPlan, getPlan, setPlan, recordPlan, databasePlan, extendedPlan}
+use Rattle.dimmer.specs.Plan
+use Rattle.dimmer.specs.Plan.{unlinked, unlisted}
+use Rattle.dimmer.proofs.Shape.{Shape, acked, refused, shaped}
 use Rattle.dimmer.specs.Groups.{broadcastPlan, cleanupPlan}
 use Rattle.dimmer.specs.Decide.{wantedOf, commandPlan, directPlan}
 use Rattle.device.specs.declared.rule.Ruling.{Ruling}
@@ -48,7 +43,7 @@ use Rattle.promises.specs.Demand1.{Fate, carried-out, silent, not-linked
 -- what a plan is that is not carried out, to a sender with a Command 1
 pub data Fair (m : Module) (sort : Sort) (to : Address) (one : ℕ) (p : Plan) : Type 0 where
   done : numberOf (p .outcome) ≡ 0 → Fair m sort to one p
-  mute : (o : Outcome) → within 1 4 (numberOf o) || eqb (numberOf o) 8 ≡ true → p ≡ refused m o Due.Nothing → Fair m sort to one p
+  mute : (o : Outcome) → within 1 4 (numberOf o) || eqb (numberOf o) 8 ≡ true → p ≡ Plan.refused m o Due.Nothing → Fair m sort to one p
   stranger : p ≡ unlinked m sort to one → Fair m sort to one p
   unknown : p ≡ unlisted m sort to one → Fair m sort to one p
 
@@ -56,66 +51,13 @@ module _ (m : Module) (from : Address) (c : Codes) where
   abbrev Direct : Plan → Type 0
   Direct = Fair m Sort.Nak from (c .one)
 
-  unlisted-here : Direct (unlisted m Sort.Nak from (c .one))
-  unlisted-here = unknown refl
-
-  standard : (command : Standard) → Direct (standardPlan m from c command)
-  unfolding statusPlan readFlagsPlan percentPlan
-  standard Standard.Ping = done refl
-  standard Standard.IdRequest = done refl
-  standard Standard.EngineVersion = done refl
-  standard Standard.On = done refl
-  standard Standard.OnFast = done refl
-  standard Standard.Instant = done refl
-  standard Standard.Off = done refl
-  standard Standard.OffFast = done refl
-  standard Standard.Brighten = done refl
-  standard Standard.Dim = done refl
-  standard Standard.Status = either Direct _ (done refl) (either Direct _ (done refl) unlisted-here)
-  standard Standard.ReadFlags = either Direct _ (done refl) (either Direct _ (done refl) unlisted-here)
-  standard Standard.OnAtRamp = done refl
-  standard Standard.OffAtRamp = done refl
-  standard Standard.Beep = done refl
-  standard Standard.Percent = either Direct _ (done refl) unlisted-here
-  standard Standard.Unlisted = unlisted-here
-
-  within-limits : (a b x : ℕ) (next : Module) → Direct (limited m from c a b x next)
-  unfolding limited
-  within-limits a b x next = either Direct _ (done refl) unlisted-here
-
-  written : (k n : ℕ) → Direct (writtenPlan m from c k n)
-  unfolding writtenPlan
-  written k n = either Direct _ (done refl) unlisted-here
+  shape-fair : (p : Plan) → Shape m from (c .one) p → Direct p
+  shape-fair p (acked e a i) = done e
+  shape-fair p (refused e) = unknown e
 
   module _ (d : List ℕ) where
-    getting : (place : Place) → Direct (getPlan m from c d place)
-    getting (Place.Record k) = done refl
-    getting Place.Illegal = unlisted-here
-
-    setting : (place : Place) → Direct (setPlan m from c d place)
-    setting (Place.Record k) = written k _
-    setting Place.Illegal = unlisted-here
-
-    rows : (place : Place) → Direct (among (dataIn d 2) (unlisted m Sort.Nak from (c .one)) (recordRows m from c d place))
-    rows place = either Direct _ (getting place) (either Direct _ (setting place) unlisted-here)
-
-    extended : (n : ℕ) (command : Extended) → Direct (extendedPlan m from c d n command)
-    unfolding propertyPlan propertiesPlan recordPlan databasePlan
-    extended n Extended.SetFlags = within-limits _ _ _ _
-    extended n Extended.Properties =
-        either Direct _
-        (either Direct _ (done refl)
-        (either Direct _ (done refl)
-        (either Direct _ (within-limits _ _ _ _)
-        (either Direct _ (done refl)
-        (either Direct _ (within-limits _ _ _ _) unlisted-here)))))
-        unlisted-here
-    extended n Extended.Database = either Direct _ (rows (placeOf n (dataIn d 3 * 256 + dataIn d 4))) unlisted-here
-    extended n Extended.Unlisted = unlisted-here
-
     command-fair : (n : ℕ) (command : Command) → Direct (commandPlan m from c d n command)
-    command-fair n (Command.Standard s) = standard s
-    command-fair n (Command.Extended e) = extended n e
+    command-fair n command = shape-fair (commandPlan m from c d n command) (shaped m from c d n command)
 
     direct-fair : (n : ℕ) (command : Command) (found : Found) → Direct (directPlan m from c d n command found)
     unfolding directPlan

@@ -1,13 +1,13 @@
 -- A legal direct command of a linked sender takes its stated effect, and any other is refused with 7.
 use Prim.Native.Nat.{ℕ, _+_, _*_, _/_, _%_, _≤_, _<_}
 use mathlib.Core.Path.{_≡_, refl, sym, _∙_, ap}
-use mathlib.Core.Bool.{Bool, true, false, not, _&&_}
+use mathlib.Core.Bool.{Bool, true, false}
 use mathlib.Core.List.{List}
 use native.Mathlib.Omega.{arith}
 use lib.Dec.{eqb, leb, ltb}
 use lib.ListN.{length, take, drop, length-take}
 use lib.Seq.{drop-drop}
-use borrow.Author.Tests.{not-true, le-leb, eq-eqb, ne-eqb, eqb-true, eqb-false, leb-true, le-ltb}
+use borrow.Author.Tests.{le-leb, eq-eqb, ne-eqb, eqb-true, eqb-false, leb-true, le-ltb}
 use Rattle.basis.specs.Choice.{choose}
 use Rattle.basis.specs.Flags.{flagged}
 use Rattle.basis.specs.Numbers.{within}
@@ -20,13 +20,9 @@ use Rattle.wire.specs.declared.command.Codes.{Codes}
 use Rattle.wire.specs.declared.command.Standard.{Standard}
 use Rattle.wire.specs.declared.command.Extended.{Extended}
 use Rattle.wire.specs.declared.command.Command.{Command}
-use Rattle.wire.specs.declared.kind.Kind.{Kind}
-use Rattle.wire.specs.declared.kind.Reading.{Reading}
-use Rattle.wire.specs.Bytes.{fromOf, codesOf, dataAt, dataOf, extended, whole}
+use Rattle.wire.specs.Bytes.{fromOf, codesOf, dataAt, dataOf, extended}
 use Rattle.wire.specs.Commands.{standards, extendeds, standardOf, extendedOf}
-use Rattle.wire.specs.Kinds.{foreign, commandOf, kindOf}
-use Rattle.wire.specs.Checksum.{sumWrong}
-use Rattle.wire.specs.Reading.{readOf}
+use Rattle.wire.specs.Kinds.{commandOf}
 use Rattle.links.specs.declared.search.Wanted.{Wanted}
 use Rattle.links.specs.Record.{records}
 use Rattle.links.specs.Live.{Linked}
@@ -46,8 +42,9 @@ use Rattle.dimmer.specs.Plan.{acked, unlinked, unlisted}
 use Rattle.dimmer.specs.Standard.{statusPlan, readFlagsPlan, percentPlan, standardPlan}
 use Rattle.dimmer.specs.Extended.{limited, flagsPlan, writtenPlan, propertyPlan, propertiesPlan, getPlan, setPlan, recordPlan, databasePlan, extendedPlan}
 use Rattle.dimmer.specs.Decide.{needsNoLink, directWanted, commandPlan, directPlan}
-use Rattle.device.specs.Ruling.{heardBy, rulingBy, rulingOf}
+use Rattle.device.specs.Ruling.{rulingBy, rulingOf}
 use Rattle.device.specs.Step.{linksAfter, stepOf}
+use Rattle.promises.proofs.Heard.{parts, heard}
 use Rattle.promises.specs.Legal.{Effect, Legal, FromLinked, Taken, ping, id-request, engine-version, on, on-fast, instant, off, off-fast, brighten, dim, status, status-percent, flags, delta, on-at-ramp, off-at-ramp, beep, percent, set-flag, clear-flag, get-properties, set-x10, set-ramp, set-on-level, set-led, get-database, set-database}
 
 -- a linked sender's command is looked at, whether it needs the link or not
@@ -67,19 +64,9 @@ module _ (m : Module) (l s : List ℕ) (h : FromLinked m l s) where
   abbrev plan : Plan
   plan = commandPlan m (fromOf s) (codesOf s) (dataOf s) (records l) command
 
-  parts : (whole s ≡ true) × (foreign s (m .identity .address) ≡ false) × (sumWrong s ≡ false)
-  parts =
-      let a = both (whole s && not (foreign s (m .identity .address))) (not (sumWrong s)) (h .well-formed) in
-      let b = both (whole s) (not (foreign s (m .identity .address))) (a .0) in
-      (b .0, not-true _ (b .1), not-true _ (a .1))
-
-  heard : heardBy m s ≡ record { reading = Reading.Heard (Kind.Direct (fromOf s) command (codesOf s)); «data» = dataOf s }
-  unfolding readOf kindOf choose
-  heard = rw (parts .0, parts .1, parts .2, h .is-direct)
-
   planned : rulingOf m l s .plan ≡ plan
   unfolding rulingBy choose
-  planned = rw (h .is-fit, heard) (linked-plan m l (fromOf s) (codesOf s) (dataOf s) (records l) command (h .linked))
+  planned = rw (h .is-fit, heard m s (h .well-formed) (h .is-direct)) (linked-plan m l (fromOf s) (codesOf s) (dataOf s) (records l) command (h .linked))
 
   -- which command the bytes name
   short-command : (c : ℕ) → (extended s ≡ false) × (codesOf s .one ≡ c) → command ≡ Command.Standard (standardOf c)
@@ -96,7 +83,7 @@ module _ (m : Module) (l s : List ℕ) (h : FromLinked m l s) where
   -- an extended message's data bytes are those from place 9 on
   data-bytes : extended s ≡ true → drop 5 (dataOf s) ≡ drop 14 s
   data-bytes x =
-      let long : length s ≡ 23 = eqb-true (length s) 23 (sym (by-length s (parts .0)) ∙ x) in
+      let long : length s ≡ 23 = eqb-true (length s) 23 (sym (by-length s (parts m s (h .well-formed) .0)) ∙ x) in
       ap (λ (d : List ℕ). drop 5 d) (spelled-from 14 9 s (omega arith)) ∙ drop-drop 5 9 s
 
   write-there : (k : ℕ) → extended s ≡ true → k < records l → dataAt s 5 ≤ 8 → writtenIn l k (take (dataAt s 5) (drop 5 (dataOf s))) ≡ written l k (take (dataAt s 5) (drop 14 s))
@@ -161,7 +148,7 @@ module _ (m : Module) (l s : List ℕ) (h : FromLinked m l s) where
         record {
           result = rw (fits, planned) (fulfils e x .done);
           next = rw (fits, planned) (fulfils e x .next);
-          links = rw (fits, planned, heard) (fulfils e x .links);
+          links = rw (fits, planned, heard m s (h .well-formed) (h .is-direct)) (fulfils e x .links);
           reply = rw fits reply-is;
           room-after = rw (fits, reply-is);
         }

@@ -3,5 +3,6 @@ pub mod Examples
 pub mod Demand1
 pub mod Demand2
 pub mod OneAnswer
+pub mod Heard
 pub mod Legal
 pub mod Room

@@ -13,3 +13,9 @@ pub by : {A : Type 0} (P : A → Type 0) (b : Bool) {x y : A} → (b ≡ true �
 unfolding choose
 by P true p q = p refl
 by P false p q = q refl
+
+-- of two choices by one test
+pub beside : {A B : Type 0} (P : A → B → Type 0) (b : Bool) {x y : A} {u v : B} → P x u → P y v → P (choose b x y) (choose b u v)
+unfolding choose
+beside P true p q = p
+beside P false p q = q

@@ -1,2 +1,3 @@
 -- Laws of plans.
 pub mod Shape
+pub mod Sender

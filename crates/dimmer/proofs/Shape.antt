@@ -1,4 +1,4 @@
--- Every direct command is carried out and ACKed by a module of the same identity, or refused with 7.
+-- Every direct command that is looked at is carried out and ACKed, or refused with 7.
 use Prim.Native.Nat.{ℕ, _+_, _*_}
 use mathlib.Core.Path.{_≡_, refl}
 use mathlib.Core.List.{List}
@@ -30,7 +30,7 @@ Acks (Due.WithProperties h data1 p) = h .sort ≡ Sort.Ack
 Acks (Due.WithRecords h data1 k count) = h .sort ≡ Sort.Ack
 
 pub data Shape (m : Module) (from : Address) (one : ℕ) (p : Plan) : Type 0 where
-  acked : numberOf (p .outcome) ≡ 0 → Acks (p .due) → p .next .identity ≡ m .identity → Shape m from one p
+  acked : numberOf (p .outcome) ≡ 0 → Acks (p .due) → Shape m from one p
   refused : p ≡ unlisted m Sort.Nak from one → Shape m from one p
 
 module _ (m : Module) (from : Address) (c : Codes) where
@@ -39,35 +39,35 @@ module _ (m : Module) (from : Address) (c : Codes) where
 
   standard : (command : Standard) → Shaped (standardPlan m from c command)
   unfolding statusPlan readFlagsPlan percentPlan
-  standard Standard.Ping = acked refl refl refl
-  standard Standard.IdRequest = acked refl refl refl
-  standard Standard.EngineVersion = acked refl refl refl
-  standard Standard.On = acked refl refl refl
-  standard Standard.OnFast = acked refl refl refl
-  standard Standard.Instant = acked refl refl refl
-  standard Standard.Off = acked refl refl refl
-  standard Standard.OffFast = acked refl refl refl
-  standard Standard.Brighten = acked refl refl refl
-  standard Standard.Dim = acked refl refl refl
-  standard Standard.Status = either Shaped _ (acked refl refl refl) (either Shaped _ (acked refl refl refl) (refused refl))
-  standard Standard.ReadFlags = either Shaped _ (acked refl refl refl) (either Shaped _ (acked refl refl refl) (refused refl))
-  standard Standard.OnAtRamp = acked refl refl refl
-  standard Standard.OffAtRamp = acked refl refl refl
-  standard Standard.Beep = acked refl refl refl
-  standard Standard.Percent = either Shaped _ (acked refl refl refl) (refused refl)
+  standard Standard.Ping = acked refl refl
+  standard Standard.IdRequest = acked refl refl
+  standard Standard.EngineVersion = acked refl refl
+  standard Standard.On = acked refl refl
+  standard Standard.OnFast = acked refl refl
+  standard Standard.Instant = acked refl refl
+  standard Standard.Off = acked refl refl
+  standard Standard.OffFast = acked refl refl
+  standard Standard.Brighten = acked refl refl
+  standard Standard.Dim = acked refl refl
+  standard Standard.Status = either Shaped _ (acked refl refl) (either Shaped _ (acked refl refl) (refused refl))
+  standard Standard.ReadFlags = either Shaped _ (acked refl refl) (either Shaped _ (acked refl refl) (refused refl))
+  standard Standard.OnAtRamp = acked refl refl
+  standard Standard.OffAtRamp = acked refl refl
+  standard Standard.Beep = acked refl refl
+  standard Standard.Percent = either Shaped _ (acked refl refl) (refused refl)
   standard Standard.Unlisted = refused refl
 
-  within-limits : (a b x : ℕ) (next : Module) → next .identity ≡ m .identity → Shaped (limited m from c a b x next)
+  within-limits : (a b x : ℕ) (next : Module) → Shaped (limited m from c a b x next)
   unfolding limited
-  within-limits a b x next i = either Shaped _ (acked refl refl i) (refused refl)
+  within-limits a b x next = either Shaped _ (acked refl refl) (refused refl)
 
   written : (k n : ℕ) → Shaped (writtenPlan m from c k n)
   unfolding writtenPlan
-  written k n = either Shaped _ (acked refl refl refl) (refused refl)
+  written k n = either Shaped _ (acked refl refl) (refused refl)
 
   module _ (d : List ℕ) where
     getting : (place : Place) → Shaped (getPlan m from c d place)
-    getting (Place.Record k) = acked refl refl refl
+    getting (Place.Record k) = acked refl refl
     getting Place.Illegal = refused refl
 
     setting : (place : Place) → Shaped (setPlan m from c d place)
@@ -79,14 +79,14 @@ module _ (m : Module) (from : Address) (c : Codes) where
 
     extended : (n : ℕ) (command : Extended) → Shaped (extendedPlan m from c d n command)
     unfolding propertyPlan propertiesPlan recordPlan databasePlan
-    extended n Extended.SetFlags = within-limits _ _ _ _ refl
+    extended n Extended.SetFlags = within-limits _ _ _ _
     extended n Extended.Properties =
         either Shaped _
-        (either Shaped _ (acked refl refl refl)
-        (either Shaped _ (acked refl refl refl)
-        (either Shaped _ (within-limits _ _ _ _ refl)
-        (either Shaped _ (acked refl refl refl)
-        (either Shaped _ (within-limits _ _ _ _ refl) (refused refl))))))
+        (either Shaped _ (acked refl refl)
+        (either Shaped _ (acked refl refl)
+        (either Shaped _ (within-limits _ _ _ _)
+        (either Shaped _ (acked refl refl)
+        (either Shaped _ (within-limits _ _ _ _) (refused refl))))))
         (refused refl)
     extended n Extended.Database = either Shaped _ (rows (placeOf n (dataIn d 3 * 256 + dataIn d 4))) (refused refl)
     extended n Extended.Unlisted = refused refl

@@ -3,6 +3,7 @@ use Prim.Native.Nat.{ℕ}
 use mathlib.Core.Path.{_≡_, refl}
 use mathlib.Core.Bool.{true, _&&_}
 use mathlib.Core.List.{List}
+use mathlib.Core.Logic.{_⊎_, inl, inr}
 use Rattle.basis.proofs.Tests.{both}
 use Rattle.wire.specs.declared.address.Address.{Address}
 use Rattle.links.specs.declared.memory.Link.{Link}
@@ -47,3 +48,15 @@ module _ {A : Type 0} (l : List ℕ) (a : Address) (then : Link → A) (none : A
         go f (matched k m first) = absurd (stranger (record { place = k; live = m .live; its = its k m }))
         go f (ended k e no-match) = refl
         go f (exhausted e no-match) = refl
+
+-- every sender is linked or a stranger
+pub linked-or-not : (l : List ℕ) (a : Address) → Linked l a ⊎ (Linked l a → ⊥)
+linked-or-not l a = go (searchOf l (Wanted.Sender a)) (settled-sender l a)
+  where
+    none : ((k : ℕ) → LiveMatch l (Wanted.Sender a) k → ⊥) → Linked l a → ⊥
+    none no-match h = no-match (h .place) (record { live = h .live; wanted = h .its })
+
+    go : (f : Found) → Settled l (Wanted.Sender a) f → Linked l a ⊎ (Linked l a → ⊥)
+    go f (matched k m first) = inl (record { place = k; live = m .live; its = m .wanted })
+    go f (ended k e no-match) = inr (none no-match)
+    go f (exhausted e no-match) = inr (none no-match)

@@ -52,7 +52,7 @@ module _ (m : Module) (from : Address) (c : Codes) where
   Direct = Fair m Sort.Nak from (c .one)
 
   shape-fair : (p : Plan) → Shape m from (c .one) p → Direct p
-  shape-fair p (acked e a i) = done e
+  shape-fair p (acked e a) = done e
   shape-fair p (refused e) = unknown e
 
   module _ (d : List ℕ) where

@@ -15,22 +15,16 @@ use Rattle.basis.proofs.Tests.{both}
 use Rattle.basis.proofs.Spelled.{spelled-from}
 use Rattle.wire.proofs.Whole.{by-length}
 use Rattle.basis.proofs.Choice.{by}
-use Rattle.wire.specs.declared.address.Address.{Address}
-use Rattle.wire.specs.declared.command.Codes.{Codes}
 use Rattle.wire.specs.declared.command.Standard.{Standard}
 use Rattle.wire.specs.declared.command.Extended.{Extended}
 use Rattle.wire.specs.declared.command.Command.{Command}
 use Rattle.wire.specs.Bytes.{fromOf, codesOf, dataAt, dataOf, extended}
 use Rattle.wire.specs.Commands.{standards, extendeds, standardOf, extendedOf}
 use Rattle.wire.specs.Kinds.{commandOf}
-use Rattle.links.specs.declared.search.Wanted.{Wanted}
 use Rattle.links.specs.Record.{records}
-use Rattle.links.specs.Live.{Linked}
-use Rattle.links.specs.Search.{searchOf, ifFound}
 use Rattle.links.specs.declared.name.Place.{Place}
 use Rattle.links.specs.Name.{placeOf}
 use Rattle.links.specs.Write.{written, writtenIn}
-use Rattle.links.proofs.Linked.{found}
 use Rattle.links.proofs.Named
 use Rattle.links.proofs.Written
 use Rattle.reply.specs.declared.due.Sort.{Sort}
@@ -38,24 +32,15 @@ use Rattle.reply.specs.Reply.{replyOf}
 use Rattle.results.specs.Number.{numberOf}
 use Rattle.dimmer.specs.declared.state.Module.{Module}
 use Rattle.dimmer.specs.declared.plan.Plan.{Plan}
-use Rattle.dimmer.specs.Plan.{acked, unlinked, unlisted}
+use Rattle.dimmer.specs.Plan.{acked, unlisted}
 use Rattle.dimmer.specs.Standard.{statusPlan, readFlagsPlan, percentPlan, standardPlan}
 use Rattle.dimmer.specs.Extended.{limited, flagsPlan, writtenPlan, propertyPlan, propertiesPlan, getPlan, setPlan, recordPlan, databasePlan, extendedPlan}
-use Rattle.dimmer.specs.Decide.{needsNoLink, directWanted, commandPlan, directPlan}
+use Rattle.dimmer.specs.Decide.{commandPlan}
+use Rattle.dimmer.proofs.Sender.{linked-plan}
 use Rattle.device.specs.Ruling.{rulingBy, rulingOf}
 use Rattle.device.specs.Step.{linksAfter, stepOf}
 use Rattle.promises.proofs.Heard.{parts, heard}
 use Rattle.promises.specs.Legal.{Effect, Legal, FromLinked, Taken, ping, id-request, engine-version, on, on-fast, instant, off, off-fast, brighten, dim, status, status-percent, flags, delta, on-at-ramp, off-at-ramp, beep, percent, set-flag, clear-flag, get-properties, set-x10, set-ramp, set-on-level, set-led, get-database, set-database}
-
--- a linked sender's command is looked at, whether it needs the link or not
-linked-plan : (m : Module) (l : List ℕ) (from : Address) (c : Codes) (d : List ℕ) (n : ℕ) (command : Command) → Linked l from
-    → directPlan m from c d n command (searchOf l (directWanted from c command)) ≡ commandPlan m from c d n command
-unfolding directPlan choose
-linked-plan m l from c d n command h = go (needsNoLink c command)
-  where
-    go : (t : Bool) → choose t (commandPlan m from c d n command) (ifFound (searchOf l (choose t Wanted.Nobody (Wanted.Sender from))) (λ link. commandPlan m from c d n command) (unlinked m Sort.Nak from (c .one))) ≡ commandPlan m from c d n command
-    go true = refl
-    go false = found l from (λ link. commandPlan m from c d n command) (unlinked m Sort.Nak from (c .one)) (commandPlan m from c d n command) (λ link. refl) h
 
 module _ (m : Module) (l s : List ℕ) (h : FromLinked m l s) where
   abbrev command : Command

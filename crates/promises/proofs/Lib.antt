@@ -6,3 +6,5 @@ pub mod OneAnswer
 pub mod Heard
 pub mod Legal
 pub mod Room
+pub mod Stranger
+pub mod Demand3

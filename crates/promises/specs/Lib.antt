@@ -6,6 +6,7 @@ pub mod Refusals
 pub mod Sequence
 pub mod Demand1
 pub mod Demand2
+pub mod Demand3
 pub mod OneAnswer
 pub mod Legal
 pub mod Room

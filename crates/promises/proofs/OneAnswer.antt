@@ -7,6 +7,8 @@ use Rattle.reply.specs.declared.due.Due.{Due}
 use Rattle.reply.specs.Sending.{Sending}
 use Rattle.dimmer.specs.declared.state.Module.{Module}
 use Rattle.device.specs.Step.{Promise}
+use Rattle.embed.specs.Call.{Call}
+use Rattle.embed.specs.Call
 use Rattle.promises.specs.OneAnswer.{Only, Delivered, Called, EachOnce}
 
 -- a promise that says what its result is equal to
@@ -23,6 +25,17 @@ stepping m l s room x y p q =
       answer = record { outcome = by-value _ _ _ (p .outcome) (q .outcome) i; length = by-value _ _ _ (p .sent) (q .sent) i; read = by-value _ _ _ (p .read) (q .read) i; next = by-value _ _ _ (p .next) (q .next) i };
       links = by-value _ _ _ (p .memory) (q .memory) i;
       room = by-value _ _ _ (p .room-after) (q .room-after) i;
+    }
+
+embedded : (image l s room report : List ℕ) → Only (λ (c : Call). Call.Promise image l s room report (c .number) (c .image) (c .links) (c .room) (c .report))
+embedded image l s room report x y p q =
+    λ i.
+    record {
+      number = by-value _ _ _ (p .number) (q .number) i;
+      image = by-value _ _ _ (p .image-after) (q .image-after) i;
+      links = by-value _ _ _ (p .links-after) (q .links-after) i;
+      room = by-value _ _ _ (p .room-after) (q .room-after) i;
+      report = by-value _ _ _ (p .report-after) (q .report-after) i;
     }
 
 pub each-once : EachOnce
@@ -53,4 +66,5 @@ each-once =
       plan-of = λ _ _ _ _ _. by-value _;
       rule = λ _ _ _. by-value _;
       step = stepping;
+      dreelish-step = embedded;
     }

@@ -37,6 +37,8 @@ use Rattle.device.specs.declared.rule.Ruling.{Ruling}
 use Rattle.device.specs.declared.step.Answer.{Answer}
 use Rattle.device.specs.Ruling.{rulingBy}
 use Rattle.device.specs.Step.{Promise}
+use Rattle.embed.specs.Call.{Call}
+use Rattle.embed.specs.Call
 
 -- at most one result meets the promise
 abbrev pub Only : {A : Type 0} → (A → Type 0) → Type 0
@@ -80,3 +82,4 @@ pub record EachOnce : Type 0 where
   pub plan-of : (m : Module) (kind : Kind) (d : List ℕ) (n : ℕ) (found : Found) → Only (λ (r : Plan). r ≡ planOf m kind d n found)
   pub rule : (m : Module) (l : List ℕ) (message : Message) → Only (λ (r : Ruling). r ≡ rulingBy m l message)
   pub step : (m : Module) (l s room : List ℕ) → Only (λ (d : Called). Promise m l s room (d .answer) (d .links) (d .room))
+  pub dreelish-step : (image l s room report : List ℕ) → Only (λ (c : Call). Call.Promise image l s room report (c .number) (c .image) (c .links) (c .room) (c .report))

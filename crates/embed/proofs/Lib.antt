@@ -1,0 +1,2 @@
+-- Laws of the call for other languages.
+pub mod Served

@@ -1,0 +1,14 @@
+use borrow.Author.Needs.{needs}
+use Rattle.embed.proofs.image.module_of.Statement.{statement}
+use Rattle.embed.proofs.image.module_of.Tie as tie
+
+pub module-of-spec : {M : Type 1} → statement M
+module-of-spec =
+    tie.close
+    (tie.spec
+    (λ c κs. search needs)
+    (λ c. search needs)
+    (λ c. search needs)
+    (λ c κs. search needs)
+    (λ c. search needs)
+    (λ c. rw (c .before .before .before .before .identity-of .ensures, c .before .properties-of .ensures)))

@@ -1,0 +1,23 @@
+-- A module as fifteen bytes: address (3), category, subcategory, firmware, revision, level, flags, ramp, on level, LED, house, unit, delta.
+use Prim.Native.Nat.{ℕ}
+use mathlib.Core.List.{List, [], _∷_}
+use lib.ListN.{getD}
+use Rattle.dimmer.specs.declared.state.Module.{Module}
+
+abbrev pub moduleOf : List ℕ → Module
+moduleOf s =
+    record {
+      identity = record { address = record { high = getD s 0 0; middle = getD s 1 0; low = getD s 2 0 }; category = getD s 3 0; subcategory = getD s 4 0; firmware = getD s 5 0; revision = getD s 6 0 };
+      level = getD s 7 0;
+      flags = getD s 8 0;
+      properties = record { ramp = getD s 9 0; «on_level» = getD s 10 0; led = getD s 11 0; house = getD s 12 0; unit = getD s 13 0 };
+      delta = getD s 14 0;
+    }
+
+abbrev pub imageOf : Module → List ℕ
+imageOf m =
+    m .identity .address .high ∷ m .identity .address .middle ∷ m .identity .address .low ∷
+    m .identity .category ∷ m .identity .subcategory ∷ m .identity .firmware ∷ m .identity .revision ∷
+    m .level ∷ m .flags ∷
+    m .properties .ramp ∷ m .properties .«on_level» ∷ m .properties .led ∷ m .properties .house ∷ m .properties .unit ∷
+    m .delta ∷ []

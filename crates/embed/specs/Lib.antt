@@ -1,0 +1,3 @@
+-- What the call for other languages means.
+pub mod Image
+pub mod Call

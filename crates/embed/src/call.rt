@@ -1,0 +1,36 @@
+// One message to the module that an image holds.
+use crate::image::image_of;
+use crate::image::module_of;
+use device::step::step;
+use results::number;
+ghost use Rattle.embed.specs.Call.{Promise};
+
+// The number of an image or a report that does not fit.
+const UNFIT: u64 = 255;
+
+#[no_mangle]
+pub extern "C" fn dreelish_step(
+    image: &mut [u8],
+    links: &mut [u8],
+    message: &[u8],
+    room: &mut [u8],
+    report: &mut [u64],
+) -> u64
+    ensures { λ r. ⌜ Promise (now (image .entry)) (now (links .entry)) (now (message .entry)) (now (room .entry)) (now (report .entry)) r (now (image .exit)) (now (links .exit)) (now (room .exit)) (now (report .exit)) ⌝ }
+{
+    if image.len() != 15 {
+        return UNFIT;
+    }
+    if report.len() < 2 {
+        return UNFIT;
+    }
+    let m = module_of(image);
+    let answer = step(m, links, message, room);
+    let next = answer.next;
+    let bytes = image_of(next);
+    basis::lay(image, &bytes);
+    report[0] = answer.length as u64;
+    report[1] = answer.read as u64;
+    let outcome = answer.outcome;
+    number(outcome) as u64
+}

@@ -1,0 +1,76 @@
+// A module as fifteen bytes, so that a caller of another language can hold it ("The module we simulate").
+use dimmer::state::Identity;
+use dimmer::state::Module;
+use reply::due::Properties;
+use wire::address::Address;
+ghost use mathlib.Core.Path.{_≡_};
+ghost use lib.ListN.{length};
+ghost use Rattle.embed.specs.Image.{moduleOf, imageOf};
+
+pub(crate) fn module_of(image: &[u8]) -> Module
+    requires { ⌜ length (now image) ≡ 15 ⌝ }
+    ensures { λ r. ⌜ r ≡ moduleOf (now (image .entry)) ⌝ }
+{
+    Module {
+        identity: identity_of(image),
+        level: image[7],
+        flags: image[8],
+        properties: properties_of(image),
+        delta: image[14],
+    }
+}
+
+fn identity_of(image: &[u8]) -> Identity
+    requires { ⌜ length (now image) ≡ 15 ⌝ }
+    ensures { λ r. ⌜ r ≡ moduleOf (now (image .entry)) .identity ⌝ }
+{
+    Identity {
+        address: Address {
+            high: image[0],
+            middle: image[1],
+            low: image[2],
+        },
+        category: image[3],
+        subcategory: image[4],
+        firmware: image[5],
+        revision: image[6],
+    }
+}
+
+fn properties_of(image: &[u8]) -> Properties
+    requires { ⌜ length (now image) ≡ 15 ⌝ }
+    ensures { λ r. ⌜ r ≡ moduleOf (now (image .entry)) .properties ⌝ }
+{
+    Properties {
+        house: image[12],
+        unit: image[13],
+        ramp: image[9],
+        on_level: image[10],
+        led: image[11],
+    }
+}
+
+pub(crate) fn image_of(m: Module) -> [u8; 15]
+    ensures { λ r. ⌜ r ≡ imageOf m ⌝ }
+{
+    let i = m.identity;
+    let a = i.address;
+    let p = m.properties;
+    [
+        a.high,
+        a.middle,
+        a.low,
+        i.category,
+        i.subcategory,
+        i.firmware,
+        i.revision,
+        m.level,
+        m.flags,
+        p.ramp,
+        p.on_level,
+        p.led,
+        p.house,
+        p.unit,
+        m.delta,
+    ]
+}

@@ -12,13 +12,11 @@ use Rattle.basis.specs.Choice.{choose}
 use Rattle.basis.specs.Laid.{laid}
 use Rattle.basis.proofs.Choice.{either, beside}
 use Rattle.wire.specs.declared.address.Address.{Address}
-use Rattle.wire.specs.declared.command.Command.{Command}
-use Rattle.wire.specs.Bytes.{fromOf, flagsOf, codesOf, dataOf, extended}
-use Rattle.wire.specs.Kinds.{direct, commandOf}
+use Rattle.wire.specs.Bytes.{fromOf, flagsOf, codesOf, dataOf}
+use Rattle.wire.specs.Kinds.{direct}
 use Rattle.wire.specs.Reading.{wellFormed}
 use Rattle.links.specs.Record.{fit, records}
 use Rattle.links.specs.Live.{Linked}
-use Rattle.links.specs.Search.{searchOf}
 use Rattle.links.proofs.Linked.{linked-or-not}
 use Rattle.reply.specs.declared.due.Sort.{Sort}
 use Rattle.reply.specs.declared.due.Head.{Head}
@@ -29,15 +27,14 @@ use Rattle.reply.specs.Reply.{replyOf}
 use Rattle.dimmer.specs.declared.state.Identity.{Identity}
 use Rattle.dimmer.specs.declared.state.Module.{Module}
 use Rattle.dimmer.specs.declared.plan.Plan.{Plan}
-use Rattle.dimmer.specs.Decide.{directWanted, commandPlan, directPlan}
 use Rattle.dimmer.proofs.Shape.{Shape, Acks, acked, refused, shaped}
-use Rattle.dimmer.proofs.Sender.{linked-plan, exempt-plan, stranger-plan}
-use Rattle.device.specs.Ruling.{heardBy, rulingBy, rulingOf}
+use Rattle.dimmer.proofs.Sender.{exempt-plan, stranger-plan}
+use Rattle.device.specs.Ruling.{heardBy, rulingOf}
 use Rattle.device.specs.Step.{Step, linksAfter, stepOf}
 use Rattle.device.specs.Run.{Call, State, callOf, leftBy, runOf, endOf}
 use Rattle.promises.specs.Room.{dueTo}
 use Rattle.promises.specs.Demand3.{Stranger, pingOrId, NakExactly, LearnsNothing, none, keep, strike, Strikes, AlwaysStrikes, Unmissed}
-use Rattle.promises.proofs.Heard.{heard}
+use Rattle.promises.proofs.Ruled.{commandIn, lookedAt, ruled, ruled-linked}
 use Rattle.promises.proofs.Stranger.{exempt, strangerBytes, ruling-quiet, unaltered}
 
 -- bytes sent and room afterwards, by the reply that is due
@@ -80,31 +77,21 @@ module _ (m : Module) (l : List ℕ) (from : Address) (one : ℕ) where
       omega arith
 
 module _ (m : Module) (l s : List ℕ) (f : fit l ≡ true) (w : wellFormed s (m .identity .address) ≡ true) (d : direct s ≡ true) where
-  abbrev command : Command
-  command = commandOf (extended s) (codesOf s .one)
-
-  abbrev plan : Plan
-  plan = commandPlan m (fromOf s) (codesOf s) (dataOf s) (records l) command
-
   abbrev dueOf : Plan → List ℕ
   dueOf p = replyOf (m .identity .address) l (p .due)
 
-  ruled : rulingOf m l s .plan ≡ directPlan m (fromOf s) (codesOf s) (dataOf s) (records l) command (searchOf l (directWanted (fromOf s) (codesOf s) command))
-  unfolding rulingBy choose
-  ruled = rw (f, heard m s w d)
-
-  looked-at : rulingOf m l s .plan ≡ plan → dueTo m l s ≡ nak m l (fromOf s) (codesOf s .one) → ⊥
-  looked-at e q = not-ff m l (fromOf s) (codesOf s .one) plan (shaped m (fromOf s) (codesOf s) (dataOf s) (records l) command) (ap dueOf (sym e) ∙ q)
+  looked-at : rulingOf m l s .plan ≡ lookedAt m l s → dueTo m l s ≡ nak m l (fromOf s) (codesOf s .one) → ⊥
+  looked-at e q = not-ff m l (fromOf s) (codesOf s .one) (lookedAt m l s) (shaped m (fromOf s) (codesOf s) (dataOf s) (records l) (commandIn s)) (ap dueOf (sym e) ∙ q)
 
   only-then : dueTo m l s ≡ nak m l (fromOf s) (codesOf s .one) → (pingOrId s ≡ false) × Stranger l s
-  only-then q = (go (pingOrId s) refl, λ h. looked-at (ruled ∙ linked-plan m l (fromOf s) (codesOf s) (dataOf s) (records l) command h) q)
+  only-then q = (go (pingOrId s) refl, λ h. looked-at (ruled-linked m l s f w d h) q)
     where
       go : (t : Bool) → pingOrId s ≡ t → pingOrId s ≡ false
-      go true e = absurd (looked-at (ruled ∙ exempt-plan m l (fromOf s) (codesOf s) (dataOf s) (records l) command (exempt s ∙ e)) q)
+      go true e = absurd (looked-at (ruled m l s f w d ∙ exempt-plan m l (fromOf s) (codesOf s) (dataOf s) (records l) (commandIn s) (exempt s ∙ e)) q)
       go false e = e
 
   then : (pingOrId s ≡ false) × Stranger l s → dueTo m l s ≡ nak m l (fromOf s) (codesOf s .one)
-  then h = ap dueOf (ruled ∙ stranger-plan m l (fromOf s) (codesOf s) (dataOf s) (records l) command (h .1) (exempt s ∙ h .0))
+  then h = ap dueOf (ruled m l s f w d ∙ stranger-plan m l (fromOf s) (codesOf s) (dataOf s) (records l) (commandIn s) (h .1) (exempt s ∙ h .0))
 
 pub nak-exactly : NakExactly
 nak-exactly m l s room f w d enough =

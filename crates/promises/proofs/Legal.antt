@@ -14,13 +14,13 @@ use Rattle.basis.specs.Numbers.{within}
 use Rattle.basis.proofs.Tests.{both}
 use Rattle.basis.proofs.Spelled.{spelled-from}
 use Rattle.wire.proofs.Whole.{by-length}
+use Rattle.wire.proofs.Heard.{parts, heard}
 use Rattle.basis.proofs.Choice.{by}
 use Rattle.wire.specs.declared.command.Standard.{Standard}
 use Rattle.wire.specs.declared.command.Extended.{Extended}
 use Rattle.wire.specs.declared.command.Command.{Command}
 use Rattle.wire.specs.Bytes.{fromOf, codesOf, dataAt, dataOf, extended}
 use Rattle.wire.specs.Commands.{standards, extendeds, standardOf, extendedOf}
-use Rattle.wire.specs.Kinds.{commandOf}
 use Rattle.links.specs.Record.{records}
 use Rattle.links.specs.declared.name.Place.{Place}
 use Rattle.links.specs.Name.{placeOf}
@@ -36,22 +36,20 @@ use Rattle.dimmer.specs.Plan.{acked, unlisted}
 use Rattle.dimmer.specs.Standard.{statusPlan, readFlagsPlan, percentPlan, standardPlan}
 use Rattle.dimmer.specs.Extended.{limited, flagsPlan, writtenPlan, propertyPlan, propertiesPlan, getPlan, setPlan, recordPlan, databasePlan, extendedPlan}
 use Rattle.dimmer.specs.Decide.{commandPlan}
-use Rattle.dimmer.proofs.Sender.{linked-plan}
-use Rattle.device.specs.Ruling.{rulingBy, rulingOf}
+use Rattle.device.specs.Ruling.{rulingOf}
 use Rattle.device.specs.Step.{linksAfter, stepOf}
-use Rattle.promises.proofs.Heard.{parts, heard}
+use Rattle.promises.proofs.Ruled.{commandIn, lookedAt, ruled-linked}
 use Rattle.promises.specs.Legal.{Effect, Legal, FromLinked, Taken, ping, id-request, engine-version, on, on-fast, instant, off, off-fast, brighten, dim, status, status-percent, flags, delta, on-at-ramp, off-at-ramp, beep, percent, set-flag, clear-flag, get-properties, set-x10, set-ramp, set-on-level, set-led, get-database, set-database}
 
 module _ (m : Module) (l s : List ℕ) (h : FromLinked m l s) where
   abbrev command : Command
-  command = commandOf (extended s) (codesOf s .one)
+  command = commandIn s
 
   abbrev plan : Plan
-  plan = commandPlan m (fromOf s) (codesOf s) (dataOf s) (records l) command
+  plan = lookedAt m l s
 
   planned : rulingOf m l s .plan ≡ plan
-  unfolding rulingBy choose
-  planned = rw (h .is-fit, heard m s (h .well-formed) (h .is-direct)) (linked-plan m l (fromOf s) (codesOf s) (dataOf s) (records l) command (h .linked))
+  planned = ruled-linked m l s (h .is-fit) (h .well-formed) (h .is-direct) (h .linked)
 
   -- which command the bytes name
   short-command : (c : ℕ) → (extended s ≡ false) × (codesOf s .one ≡ c) → command ≡ Command.Standard (standardOf c)
@@ -68,7 +66,7 @@ module _ (m : Module) (l s : List ℕ) (h : FromLinked m l s) where
   -- an extended message's data bytes are those from place 9 on
   data-bytes : extended s ≡ true → drop 5 (dataOf s) ≡ drop 14 s
   data-bytes x =
-      let long : length s ≡ 23 = eqb-true (length s) 23 (sym (by-length s (parts m s (h .well-formed) .0)) ∙ x) in
+      let long : length s ≡ 23 = eqb-true (length s) 23 (sym (by-length s (parts s (m .identity .address) (h .well-formed) .0)) ∙ x) in
       ap (λ (d : List ℕ). drop 5 d) (spelled-from 14 9 s (omega arith)) ∙ drop-drop 5 9 s
 
   write-there : (k : ℕ) → extended s ≡ true → k < records l → dataAt s 5 ≤ 8 → writtenIn l k (take (dataAt s 5) (drop 5 (dataOf s))) ≡ written l k (take (dataAt s 5) (drop 14 s))
@@ -133,7 +131,7 @@ module _ (m : Module) (l s : List ℕ) (h : FromLinked m l s) where
         record {
           result = rw (fits, planned) (fulfils e x .done);
           next = rw (fits, planned) (fulfils e x .next);
-          links = rw (fits, planned, heard m s (h .well-formed) (h .is-direct)) (fulfils e x .links);
+          links = rw (fits, planned, heard s (m .identity .address) (h .well-formed) (h .is-direct)) (fulfils e x .links);
           reply = rw fits reply-is;
           room-after = rw (fits, reply-is);
         }

@@ -3,7 +3,7 @@ pub mod Examples
 pub mod Demand1
 pub mod Demand2
 pub mod OneAnswer
-pub mod Heard
+pub mod Ruled
 pub mod Legal
 pub mod Room
 pub mod Stranger

@@ -8,7 +8,6 @@ use borrow.Author.Tests.{eqb-true}
 use Rattle.basis.specs.Choice.{choose}
 use Rattle.basis.proofs.Choice.{either, beside}
 use Rattle.basis.proofs.Tests.{clash}
-use Rattle.wire.specs.declared.command.Command.{Command}
 use Rattle.wire.specs.declared.kind.Kind.{Kind}
 use Rattle.wire.specs.declared.kind.Message.{Message}
 use Rattle.wire.specs.Bytes.{fromOf, toOf, codesOf, dataOf, extended, whole}
@@ -31,9 +30,10 @@ use Rattle.dimmer.proofs.Sender.{exempt-plan, stranger-plan, stranger-cleanup, 
 use Rattle.device.specs.declared.rule.Ruling.{Ruling}
 use Rattle.device.specs.Ruling.{heardBy, kindRuling, readRuling, rulingBy, rulingOf}
 use Rattle.promises.specs.Demand3.{Stranger, pingOrId}
+use Rattle.promises.proofs.Ruled.{commandIn}
 
 -- what needs no link is a standard ping or ID request
-pub exempt : (s : List ℕ) → needsNoLink (codesOf s) (commandOf (extended s) (codesOf s .one)) ≡ pingOrId s
+pub exempt : (s : List ℕ) → needsNoLink (codesOf s) (commandIn s) ≡ pingOrId s
 unfolding choose
 exempt s = go (extended s)
   where
@@ -44,14 +44,14 @@ exempt s = go (extended s)
 -- what a module of this identity sends to a stranger, by the message alone
 module _ (i : Identity) (s : List ℕ) where
   -- to a standard ping or ID request
-  abbrev openBytes : List ℕ
-  openBytes =
-      choose (eqb (codesOf s .one) 0x0f) (headOf (i .address) (ack (fromOf s) (codesOf s)))
+  abbrev openBytes : Bool → List ℕ
+  openBytes ping =
+      choose ping (headOf (i .address) (ack (fromOf s) (codesOf s)))
       (headOf (i .address) (ack (fromOf s) (codesOf s)) ++ standard (i .address) (idOf i) Sort.IdBroadcast 0x01 (i .revision))
 
   abbrev kindBytes : List ℕ
   kindBytes =
-      choose (direct s) (choose (pingOrId s) openBytes (standard (i .address) (fromOf s) Sort.Nak (codesOf s .one) 0xff))
+      choose (direct s) (choose (pingOrId s) (openBytes (eqb (codesOf s .one) 0x0f)) (standard (i .address) (fromOf s) Sort.Nak (codesOf s .one) 0xff))
       (choose (cleanup s) (standard (i .address) (fromOf s) Sort.CleanupNak (codesOf s .one) 0xff)
       [])
 
@@ -65,15 +65,12 @@ pub record Quiet (m : Module) (l : List ℕ) (p : Plan) (bytes : List ℕ) : Typ
   pub sent : replyOf (m .identity .address) l (p .due) ≡ bytes
 
 module _ (m : Module) (l s : List ℕ) (stranger : Stranger l s) where
-  abbrev command : Command
-  command = commandOf (extended s) (codesOf s .one)
-
-  opens : (d : List ℕ) (n : ℕ) → pingOrId s ≡ true → Quiet m l (commandPlan m (fromOf s) (codesOf s) d n command) (openBytes (m .identity) s)
+  opens : (d : List ℕ) (n : ℕ) → pingOrId s ≡ true → Quiet m l (commandPlan m (fromOf s) (codesOf s) d n (commandIn s)) (openBytes (m .identity) s (eqb (codesOf s .one) 0x0f))
   unfolding choose standards
   opens d n e = go (extended s) (eqb (codesOf s .one) 0x0f) refl e
     where
       go : (long ping : Bool) → eqb (codesOf s .one) 0x0f ≡ ping → not long && (ping || eqb (codesOf s .one) 0x10) ≡ true
-          → Quiet m l (commandPlan m (fromOf s) (codesOf s) d n (commandOf long (codesOf s .one))) (choose ping (headOf (m .identity .address) (ack (fromOf s) (codesOf s))) (headOf (m .identity .address) (ack (fromOf s) (codesOf s)) ++ standard (m .identity .address) (idOf (m .identity)) Sort.IdBroadcast 0x01 (m .identity .revision)))
+          → Quiet m l (commandPlan m (fromOf s) (codesOf s) d n (commandOf long (codesOf s .one))) (openBytes (m .identity) s ping)
       go true ping q e = clash refl (sym e)
       go false true q e = rw (eqb-true (codesOf s .one) 0x0f q) (record { next = refl; write = refl; sent = refl })
       go false false q e = rw (eqb-true (codesOf s .one) 0x10 e) (record { next = refl; write = refl; sent = refl })
@@ -82,10 +79,10 @@ module _ (m : Module) (l s : List ℕ) (stranger : Stranger l s) where
     abbrev QuietKind : Kind → List ℕ → Type 0
     QuietKind kind bytes = Quiet m l (kindRuling m l d kind .plan) bytes
 
-    to-direct : (t : Bool) → pingOrId s ≡ t → QuietKind (Kind.Direct (fromOf s) command (codesOf s)) (choose t (openBytes (m .identity) s) (standard (m .identity .address) (fromOf s) Sort.Nak (codesOf s .one) 0xff))
+    to-direct : (t : Bool) → pingOrId s ≡ t → QuietKind (Kind.Direct (fromOf s) (commandIn s) (codesOf s)) (choose t (openBytes (m .identity) s (eqb (codesOf s .one) 0x0f)) (standard (m .identity .address) (fromOf s) Sort.Nak (codesOf s .one) 0xff))
     unfolding choose
-    to-direct true e = rw (exempt-plan m l (fromOf s) (codesOf s) d (records l) command (exempt s ∙ e)) (opens d (records l) e)
-    to-direct false e = rw (stranger-plan m l (fromOf s) (codesOf s) d (records l) command stranger (exempt s ∙ e)) (record { next = refl; write = refl; sent = refl })
+    to-direct true e = rw (exempt-plan m l (fromOf s) (codesOf s) d (records l) (commandIn s) (exempt s ∙ e)) (opens d (records l) e)
+    to-direct false e = rw (stranger-plan m l (fromOf s) (codesOf s) d (records l) (commandIn s) stranger (exempt s ∙ e)) (record { next = refl; write = refl; sent = refl })
 
     to-cleanup : QuietKind (Kind.Cleanup (fromOf s) (turnOf (codesOf s .one)) (codesOf s)) (standard (m .identity .address) (fromOf s) Sort.CleanupNak (codesOf s .one) 0xff)
     to-cleanup = rw (stranger-cleanup m l (fromOf s) (codesOf s) stranger (turnOf (codesOf s .one))) (record { next = refl; write = refl; sent = refl })

@@ -1,3 +1,4 @@
 -- Laws of messages.
 pub mod Whole
 pub mod Complement
+pub mod Heard

@@ -1,8 +1,8 @@
 -- Laws of first positions.
 use Prim.Native.Nat.{ℕ, zero, suc, pred, _+_, _≤_, _<_}
-use mathlib.Core.Path.{_≡_, refl}
+use mathlib.Core.Path.{_≡_, refl, sym, _∙_, ap}
 use mathlib.Core.Bool.{Bool, true, false}
-use native.Mathlib.Nat.{le-antisymm}
+use native.Mathlib.Nat.{le-antisymm, zero-add, add-zero}
 use native.Mathlib.Omega.{arith}
 use lib.Dec.{eqb, leb}
 use borrow.Author.Tests.{eqb-true, eqb-false, leb-true, leb-false}
@@ -80,3 +80,28 @@ module _ (P : ℕ → Bool) where
       go : (i : ℕ) → Told n k i → i ≡ m
       go i (at b) = le-antisymm (not-less i m (λ h. clash (a .holds) (b .before m (a .from) h))) (not-less m i (λ h. clash (b .holds) (a .before i (b .from) h)))
       go i (nowhere w) = clash (a .holds) (w .never m (a .from) (a .inside))
+
+  -- where it fails at the first a positions, the search is one from behind them
+  pub skipped : (a n k : ℕ) → ((j : ℕ) → k ≤ j → j < k + a → P j ≡ false) → firstFrom P (a + n) k ≡ firstFrom P n (k + a)
+  skipped zero n k f = rw (zero-add, add-zero)
+  skipped (suc a) n k f =
+      let p : pred (suc a + n) ≡ a + n = omega arith in
+      let q : k + 1 + a ≡ k + suc a = omega arith in
+      later (suc a + n) k (omega arith) (f k (omega arith) (omega arith))
+      ∙ ap (λ (x : ℕ). firstFrom P x (k + 1)) p
+      ∙ skipped a n (k + 1) (λ j g h. f j (omega arith) (omega arith))
+      ∙ ap (λ (x : ℕ). firstFrom P n x) q
+
+-- a test that is another one, a positions further on
+pub shifted : (P Q : ℕ → Bool) (a : ℕ) → ((j : ℕ) → P (a + j) ≡ Q j) → (n k : ℕ) → firstFrom P n (a + k) ≡ a + firstFrom Q n k
+shifted P Q a f zero k = none P (a + k) ∙ ap (λ (x : ℕ). a + x) (sym (none Q k))
+shifted P Q a f (suc n) k = go (Q k) refl (shifted P Q a f n (k + 1))
+  where
+    go : (b : Bool) → Q k ≡ b → firstFrom P n (a + (k + 1)) ≡ a + firstFrom Q n (k + 1) → firstFrom P (suc n) (a + k) ≡ a + firstFrom Q (suc n) k
+    go true e ih = here P (suc n) (a + k) (omega arith) (f k ∙ e) ∙ ap (λ (x : ℕ). a + x) (sym (here Q (suc n) k (omega arith) e))
+    go false e ih =
+        let q : a + k + 1 ≡ a + (k + 1) = omega arith in
+        later P (suc n) (a + k) (omega arith) (f k ∙ e)
+        ∙ ap (λ (x : ℕ). firstFrom P n x) q
+        ∙ ih
+        ∙ ap (λ (x : ℕ). a + x) (sym (later Q (suc n) k (omega arith) e))

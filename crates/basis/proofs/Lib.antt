@@ -3,6 +3,7 @@ pub mod Tests
 pub mod Choice
 pub mod Table
 pub mod First
+pub mod Counted
 pub mod Spelled
 pub mod Laid
 pub mod Over

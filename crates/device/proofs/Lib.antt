@@ -1,2 +1,3 @@
 -- Laws of a call.
 pub mod Finished
+pub mod Replied

@@ -10,6 +10,7 @@ use crate::standard::standard_plan;
 use crate::state::Module;
 use links::search::Found;
 use links::search::Wanted;
+use links::search::is_found;
 use reply::due::Due;
 use reply::due::Sort;
 use results::Outcome;
@@ -86,15 +87,11 @@ fn direct_plan(
 ) -> Plan
     ensures { λ r. ⌜ r ≡ directPlan m from c «data» records command found ⌝ }
 {
-    if needs_no_link(c, command) {
+    // One call, as the search has: a compiler then keeps the plan in registers.
+    if needs_no_link(c, command) | is_found(found) {
         return command_plan(m, from, c, data, records, command);
     }
-    match found {
-        Found::Unsought => unlinked(m, Sort::Nak, from, c.one),
-        Found::Match(_, _) => command_plan(m, from, c, data, records, command),
-        Found::End(_) => unlinked(m, Sort::Nak, from, c.one),
-        Found::Memory(_) => unlinked(m, Sort::Nak, from, c.one),
-    }
+    unlinked(m, Sort::Nak, from, c.one)
 }
 
 fn command_plan(

@@ -51,7 +51,7 @@ pub(crate) fn broadcast_plan(m: Module, turn: Turn, found: Found) -> Plan
 {
     match found {
         Found::Unsought => unconcerned_plan(m),
-        Found::Match(link, _) => group_by(m, Due::Nothing, unconcerned_plan(m), turn, link),
+        Found::Match(_, link) => group_by(m, Due::Nothing, unconcerned_plan(m), turn, link),
         Found::End(_) => unconcerned_plan(m),
         Found::Memory(_) => unconcerned_plan(m),
     }
@@ -62,7 +62,7 @@ pub(crate) fn cleanup_plan(m: Module, from: Address, c: Codes, turn: Turn, found
 {
     match found {
         Found::Unsought => unlinked(m, Sort::CleanupNak, from, c.one),
-        Found::Match(link, _) => cleanup_by(m, from, c, turn, link),
+        Found::Match(_, link) => cleanup_by(m, from, c, turn, link),
         Found::End(_) => unlinked(m, Sort::CleanupNak, from, c.one),
         Found::Memory(_) => unlinked(m, Sort::CleanupNak, from, c.one),
     }

@@ -1,3 +1,3 @@
 // The one call for Rust, C and Python: numbers and byte slices, by the names of dreelish.h.
-mod call;
+pub mod call;
 mod image;

@@ -1,6 +1,6 @@
 -- The search, and the number of records read ("Link memory").
 use Prim.Native.Nat.{ℕ, _+_}
-use mathlib.Core.Bool.{Bool, false, _&&_, _||_}
+use mathlib.Core.Bool.{Bool, true, false, _&&_, _||_}
 use mathlib.Core.List.{List}
 use lib.Dec.{eqb, ltb}
 use Rattle.basis.specs.Choice.{choose}
@@ -34,24 +34,36 @@ stopOf l w = first (settlesAt l w) (records l)
 abbrev pub stoppedAt : List ℕ → ℕ → Found
 stoppedAt l k =
     choose (ltb k (records l))
-    (choose (endMark (recordAt l k)) (Found.End (k + 1)) (Found.Match (linkOf (recordAt l k)) (k + 1)))
+    (choose (endMark (recordAt l k)) (Found.End (k + 1)) (Found.Match (k + 1) (linkOf (recordAt l k))))
     (Found.Memory (records l))
+
+-- a search is made for somebody
+abbrev pub sought : Wanted → Bool
+sought Wanted.Nobody = false
+sought (Wanted.Sender a) = true
+sought (Wanted.Responder a g) = true
 
 abbrev pub searchOf : List ℕ → Wanted → Found
 searchOf l Wanted.Nobody = Found.Unsought
 searchOf l (Wanted.Sender a) = stoppedAt l (stopOf l (Wanted.Sender a))
 searchOf l (Wanted.Responder a g) = stoppedAt l (stopOf l (Wanted.Responder a g))
 
+abbrev pub isFound : Found → Bool
+isFound Found.Unsought = false
+isFound (Found.Match n link) = true
+isFound (Found.End n) = false
+isFound (Found.Memory n) = false
+
 -- 0 where no search was made
 abbrev pub readBy : Found → ℕ
 readBy Found.Unsought = 0
-readBy (Found.Match link n) = n
+readBy (Found.Match n link) = n
 readBy (Found.End n) = n
 readBy (Found.Memory n) = n
 
 -- what follows from the record found, or from none
 abbrev pub ifFound : {A : Type 0} → Found → (Link → A) → A → A
 ifFound Found.Unsought then none = none
-ifFound (Found.Match link n) then none = then link
+ifFound (Found.Match n link) then none = then link
 ifFound (Found.End n) then none = none
 ifFound (Found.Memory n) then none = none

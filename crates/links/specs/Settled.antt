@@ -16,6 +16,6 @@ pub record LiveMatch (l : List ℕ) (w : Wanted) (k : ℕ) : Type 0 where
 
 -- the first such record decides; else the end mark ends it; else it goes through all records. The count is that of the records read.
 pub data Settled (l : List ℕ) (w : Wanted) : Found → Type 0 where
-  matched : (k : ℕ) → LiveMatch l w k → ((j : ℕ) → j < k → LiveMatch l w j → ⊥) → Settled l w (Found.Match (linkOf (recordAt l k)) (k + 1))
+  matched : (k : ℕ) → LiveMatch l w k → ((j : ℕ) → j < k → LiveMatch l w j → ⊥) → Settled l w (Found.Match (k + 1) (linkOf (recordAt l k)))
   ended : (k : ℕ) → FirstUnused l k → ((j : ℕ) → LiveMatch l w j → ⊥) → Settled l w (Found.End (k + 1))
   exhausted : ((j : ℕ) → j < records l → endMark (recordAt l j) ≡ false) → ((j : ℕ) → LiveMatch l w j → ⊥) → Settled l w (Found.Memory (records l))

@@ -8,7 +8,7 @@ use crate::memory::link_of;
 use crate::memory::record_at;
 use wire::address::Address;
 ghost use mathlib.Core.Path.{_≡_};
-ghost use Rattle.links.specs.Search.{answers, matches, stopOf, stoppedAt, searchOf, readBy};
+ghost use Rattle.links.specs.Search.{answers, matches, sought, stopOf, stoppedAt, searchOf, isFound, readBy};
 
 // Whose record a search looks for.
 pub enum Wanted {
@@ -20,10 +20,10 @@ pub enum Wanted {
     Responder(Address, u8),
 }
 
-// What settled a search, with the number of records read.
+// What settled a search, with the number of records read: it stands first in each case, so that all of them have it at one place.
 pub enum Found {
     Unsought,
-    Match(Link, usize),
+    Match(usize, Link),
     End(usize),
     Memory(usize),
 }
@@ -31,10 +31,21 @@ pub enum Found {
 pub fn search(links: &[u8], wanted: Wanted) -> Found
     ensures { λ r. ⌜ r ≡ searchOf (now (links .entry)) wanted ⌝ }
 {
+    // The walk is called at one place only, so that a compiler can keep what it looks for, and what it finds, in registers.
+    if is_sought(wanted) {
+        return walk(links, wanted);
+    }
+    Found::Unsought
+}
+
+// A search is made.
+fn is_sought(wanted: Wanted) -> bool
+    ensures { λ r. ⌜ r ≡ sought wanted ⌝ }
+{
     match wanted {
-        Wanted::Nobody => Found::Unsought,
-        Wanted::Sender(_) => walk(links, wanted),
-        Wanted::Responder(_, _) => walk(links, wanted),
+        Wanted::Nobody => false,
+        Wanted::Sender(_) => true,
+        Wanted::Responder(_, _) => true,
     }
 }
 
@@ -53,7 +64,7 @@ fn walk(links: &[u8], wanted: Wanted) -> Found
             break Found::End(i + 1);
         }
         if is_match(record, wanted) {
-            break Found::Match(link_of(record), i + 1);
+            break Found::Match(i + 1, link_of(record));
         }
         i += 1;
     }
@@ -76,13 +87,25 @@ fn is_wanted(record: [u8; 8], wanted: Wanted) -> bool
     }
 }
 
+// The search came to a record that was looked for.
+pub fn is_found(found: Found) -> bool
+    ensures { λ r. ⌜ r ≡ isFound found ⌝ }
+{
+    match found {
+        Found::Unsought => false,
+        Found::Match(_, _) => true,
+        Found::End(_) => false,
+        Found::Memory(_) => false,
+    }
+}
+
 // How many records the search read.
 pub fn read_by(found: Found) -> usize
     ensures { λ r. ⌜ r ≡ readBy found ⌝ }
 {
     match found {
         Found::Unsought => 0,
-        Found::Match(_, n) => n,
+        Found::Match(n, _) => n,
         Found::End(n) => n,
         Found::Memory(n) => n,
     }

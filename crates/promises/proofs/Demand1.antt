@@ -65,23 +65,23 @@ module _ (m : Module) (from : Address) (c : Codes) where
       where
         go : (found : Found) → Direct (ifFound found (λ link. commandPlan m from c d n command) (unlinked m Sort.Nak from (c .one)))
         go Found.Unsought = stranger refl
-        go (Found.Match link k) = command-fair n command
+        go (Found.Match k link) = command-fair n command
         go (Found.End k) = stranger refl
         go (Found.Memory k) = stranger refl
 
   cleanup-fair : (turn : Turn) (found : Found) → Fair m Sort.CleanupNak from (c .one) (cleanupPlan m from c turn found)
   cleanup-fair turn Found.Unsought = stranger refl
-  cleanup-fair Turn.On (Found.Match link k) = done refl
-  cleanup-fair Turn.Off (Found.Match link k) = done refl
-  cleanup-fair Turn.Unlisted (Found.Match link k) = unknown refl
+  cleanup-fair Turn.On (Found.Match k link) = done refl
+  cleanup-fair Turn.Off (Found.Match k link) = done refl
+  cleanup-fair Turn.Unlisted (Found.Match k link) = unknown refl
   cleanup-fair turn (Found.End k) = stranger refl
   cleanup-fair turn (Found.Memory k) = stranger refl
 
 broadcast-fair : (m : Module) (sort : Sort) (to : Address) (one : ℕ) (turn : Turn) (found : Found) → Fair m sort to one (broadcastPlan m turn found)
 broadcast-fair m sort to one turn Found.Unsought = mute Outcome.Unconcerned refl refl
-broadcast-fair m sort to one Turn.On (Found.Match link k) = done refl
-broadcast-fair m sort to one Turn.Off (Found.Match link k) = done refl
-broadcast-fair m sort to one Turn.Unlisted (Found.Match link k) = mute Outcome.Unconcerned refl refl
+broadcast-fair m sort to one Turn.On (Found.Match k link) = done refl
+broadcast-fair m sort to one Turn.Off (Found.Match k link) = done refl
+broadcast-fair m sort to one Turn.Unlisted (Found.Match k link) = mute Outcome.Unconcerned refl refl
 broadcast-fair m sort to one turn (Found.End k) = mute Outcome.Unconcerned refl refl
 broadcast-fair m sort to one turn (Found.Memory k) = mute Outcome.Unconcerned refl refl
 

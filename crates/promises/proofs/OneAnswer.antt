@@ -7,6 +7,8 @@ use Rattle.reply.specs.declared.due.Due.{Due}
 use Rattle.reply.specs.Sending.{Sending}
 use Rattle.dimmer.specs.declared.state.Module.{Module}
 use Rattle.device.specs.Step.{Promise}
+use Rattle.modem.specs.Serve
+use Rattle.modem.specs.Serve.{Turn}
 use Rattle.embed.specs.Call.{Call}
 use Rattle.embed.specs.Call
 use Rattle.promises.specs.OneAnswer.{Only, Delivered, Called, EachOnce}
@@ -25,6 +27,16 @@ stepping m l s room x y p q =
       answer = record { outcome = by-value _ _ _ (p .outcome) (q .outcome) i; length = by-value _ _ _ (p .sent) (q .sent) i; read = by-value _ _ _ (p .read) (q .read) i; next = by-value _ _ _ (p .next) (q .next) i };
       links = by-value _ _ _ (p .memory) (q .memory) i;
       room = by-value _ _ _ (p .room-after) (q .room-after) i;
+    }
+
+serving : (m : Module) (l frame room out : List ℕ) → Only (λ (t : Turn). Serve.Promise m l frame room out (t .served) (t .links) (t .room) (t .out))
+serving m l frame room out x y p q =
+    λ i.
+    record {
+      served = by-value _ _ _ (p .served) (q .served) i;
+      links = by-value _ _ _ (p .links-after) (q .links-after) i;
+      room = by-value _ _ _ (p .room-after) (q .room-after) i;
+      out = by-value _ _ _ (p .out-after) (q .out-after) i;
     }
 
 embedded : (image l s room report : List ℕ) → Only (λ (c : Call). Call.Promise image l s room report (c .number) (c .image) (c .links) (c .room) (c .report))
@@ -47,11 +59,13 @@ each-once =
       read-extended = λ _. by-value _;
       read-turn = λ _. by-value _;
       read = λ _ _. by-value _;
+      is-extended = λ _. by-value _;
       is-fit = λ _. by-value _;
       size = λ _. by-value _;
       take-record = λ _ _. by-value _;
       is-end = λ _. by-value _;
       search-links = λ _ _. by-value _;
+      is-found = λ _. by-value _;
       read-by = λ _. by-value _;
       name-of = λ _. by-value _;
       place-of = λ _ _. by-value _;
@@ -66,5 +80,8 @@ each-once =
       plan-of = λ _ _ _ _ _. by-value _;
       rule = λ _ _ _. by-value _;
       step = stepping;
+      seek = λ _. by-value _;
+      keep = λ _ _. by-value _;
+      serve = serving;
       dreelish-step = embedded;
     }

@@ -3,13 +3,15 @@ use Prim.Native.Nat.{ℕ}
 use mathlib.Core.Path.{_≡_}
 use mathlib.Core.Bool.{Bool}
 use mathlib.Core.List.{List}
-use Rattle.basis.specs.Laid.{laidIn}
+use lib.ListN.{drop}
+use Rattle.basis.specs.Laid.{laid, laidIn}
 use Rattle.wire.specs.declared.address.Address.{Address}
 use Rattle.wire.specs.declared.command.Standard.{Standard}
 use Rattle.wire.specs.declared.command.Extended.{Extended}
 use Rattle.wire.specs.declared.command.Turn.{Turn}
 use Rattle.wire.specs.declared.kind.Kind.{Kind}
 use Rattle.wire.specs.declared.kind.Message.{Message}
+use Rattle.wire.specs.Bytes
 use Rattle.wire.specs.Bytes.{sameAddress}
 use Rattle.wire.specs.Commands.{standardOf, extendedOf, turnOf}
 use Rattle.wire.specs.Reading.{readOf}
@@ -18,7 +20,7 @@ use Rattle.links.specs.declared.search.Found.{Found}
 use Rattle.links.specs.declared.name.Place.{Place}
 use Rattle.links.specs.Record.{fit, records, recordIn, endMark}
 use Rattle.links.specs.Name.{nameOf, placeOf}
-use Rattle.links.specs.Search.{searchOf, readBy}
+use Rattle.links.specs.Search.{searchOf, isFound, readBy}
 use Rattle.links.specs.Write.{writtenIn}
 use Rattle.reply.specs.declared.due.Sort.{Sort}
 use Rattle.reply.specs.declared.due.Due.{Due}
@@ -37,6 +39,10 @@ use Rattle.device.specs.declared.rule.Ruling.{Ruling}
 use Rattle.device.specs.declared.step.Answer.{Answer}
 use Rattle.device.specs.Ruling.{rulingBy}
 use Rattle.device.specs.Step.{Promise}
+use Rattle.modem.specs.declared.arrived.Seen.{Seen}
+use Rattle.modem.specs.Arrived.{seekOf}
+use Rattle.modem.specs.Serve
+use Rattle.modem.specs.Serve.{Turn as Turned}
 use Rattle.embed.specs.Call.{Call}
 use Rattle.embed.specs.Call
 
@@ -63,11 +69,13 @@ pub record EachOnce : Type 0 where
   pub read-extended : (one : ℕ) → Only (λ (r : Extended). r ≡ extendedOf one)
   pub read-turn : (one : ℕ) → Only (λ (r : Turn). r ≡ turnOf one)
   pub read : (s : List ℕ) (own : Address) → Only (λ (r : Message). r ≡ readOf s own)
+  pub is-extended : (s : List ℕ) → Only (λ (r : Bool). r ≡ Bytes.extended s)
   pub is-fit : (l : List ℕ) → Only (λ (r : Bool). r ≡ fit l)
   pub size : (l : List ℕ) → Only (λ (r : ℕ). r ≡ records l)
   pub take-record : (l : List ℕ) (k : ℕ) → Only (λ (r : List ℕ). r ≡ recordIn l k)
   pub is-end : (r : List ℕ) → Only (λ (b : Bool). b ≡ endMark r)
   pub search-links : (l : List ℕ) (w : Wanted) → Only (λ (r : Found). r ≡ searchOf l w)
+  pub is-found : (f : Found) → Only (λ (r : Bool). r ≡ isFound f)
   pub read-by : (f : Found) → Only (λ (r : ℕ). r ≡ readBy f)
   pub name-of : (k : ℕ) → Only (λ (r : ℕ). r ≡ nameOf k)
   pub place-of : (n address : ℕ) → Only (λ (r : Place). r ≡ placeOf n address)
@@ -82,4 +90,7 @@ pub record EachOnce : Type 0 where
   pub plan-of : (m : Module) (kind : Kind) (d : List ℕ) (n : ℕ) (found : Found) → Only (λ (r : Plan). r ≡ planOf m kind d n found)
   pub rule : (m : Module) (l : List ℕ) (message : Message) → Only (λ (r : Ruling). r ≡ rulingBy m l message)
   pub step : (m : Module) (l s room : List ℕ) → Only (λ (d : Called). Promise m l s room (d .answer) (d .links) (d .room))
+  pub seek : (s : List ℕ) → Only (λ (r : Seen). r ≡ seekOf s)
+  pub keep : (held : List ℕ) (from : ℕ) → Only (λ (after : List ℕ). after ≡ laid (drop from held) held)
+  pub serve : (m : Module) (l frame room out : List ℕ) → Only (λ (t : Turned). Serve.Promise m l frame room out (t .served) (t .links) (t .room) (t .out))
   pub dreelish-step : (image l s room report : List ℕ) → Only (λ (c : Call). Call.Promise image l s room report (c .number) (c .image) (c .links) (c .room) (c .report))

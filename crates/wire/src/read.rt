@@ -60,11 +60,13 @@ fn is_whole(message: &[u8]) -> bool
     }
 }
 
-// Flags bit 4 is set.
-fn is_extended(message: &[u8]) -> bool
-    requires { ⌜ 9 ≤ length (now message) ⌝ }
+// Flags bit 4 is set; a message too short for flags is not extended.
+pub fn is_extended(message: &[u8]) -> bool
     ensures { λ r. ⌜ r ≡ extended (now (message .entry)) ⌝ }
 {
+    if message.len() < 7 {
+        return false;
+    }
     message[6] / 16 % 2 == 1
 }
 

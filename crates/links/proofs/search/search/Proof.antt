@@ -1,4 +1,6 @@
+use mathlib.Core.Path.{sym, _∙_}
 use borrow.Author.Needs.{needs}
+use Rattle.links.proofs.Stop.{made, unmade}
 use Rattle.links.proofs.search.search.Statement.{statement}
 use Rattle.links.proofs.search.search.Tie as tie
 
@@ -6,11 +8,7 @@ pub search-spec : {M : Type 1} → statement M
 search-spec =
     tie.close
     (tie.spec
-    (λ c. search needs)
-    (λ c. search needs)
     (λ c κs. search needs)
-    (λ c. search needs)
     (λ c κs. search needs)
-    (λ c. search needs)
-    (λ c. rw (c .before .enum-told2 .given .1) (rw (c .before .enum-told2 .given .1) at (c .walk .ensures)))
-    (λ c. rw (c .before .enum-told3 .given .1) (rw (c .before .enum-told3 .given .1) at (c .walk2 .ensures))))
+    (λ c. let g = c .before .before .before .before .args in c .walk .ensures ∙ sym (made (g .links .now) (g .wanted) (sym (c .before .before .is-sought .ensures) ∙ c .before .if1 .taken)))
+    (λ c. let g = c .before .before .before .args in sym (unmade (g .links .now) (g .wanted) (sym (c .before .is-sought .ensures) ∙ c .if1 .left))))

@@ -1,0 +1,5 @@
+-- Laws of frames.
+pub mod Placed
+pub mod Pieces
+pub mod Framed
+pub mod Turned

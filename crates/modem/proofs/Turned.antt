@@ -1,0 +1,103 @@
+-- What a frame comes to, by its parts.
+use Prim.Native.Nat.{ℕ, min, _-_, _*_, _≤_, _<_}
+use mathlib.Core.Path.{_≡_, refl, sym, _∙_, ap}
+use mathlib.Core.Bool.{Bool, true, false}
+use mathlib.Core.List.{List, [], _∷_}
+use native.Mathlib.Omega.{arith}
+use lib.ListN.{length, take, drop, length-append, length-take}
+use borrow.Author.Tests.{lt-ltb, le-ltb}
+use borrow.Rule.Slice.PartMut.{midOf}
+use Rattle.basis.specs.Choice.{choose}
+use Rattle.basis.specs.Laid.{laid}
+use Rattle.basis.proofs.Laid.{rest}
+use Rattle.dimmer.specs.declared.state.Module.{Module}
+use Rattle.device.specs.declared.step.Answer.{Answer}
+use Rattle.device.specs.Step as step
+use Rattle.device.specs.Step.{Step, stepOf}
+use Rattle.device.proofs.Replied.{replied}
+use Rattle.modem.specs.declared.serve.Served.{Served}
+use Rattle.modem.specs.Frames.{framed}
+use Rattle.modem.specs.Serve.{Turn, answerOf, doneOf, ample, turnOf, Promise}
+
+-- the message behind the first two bytes; none where there are no more
+pub message : (s : List ℕ) → midOf (min (length s) 2) (length s - min (length s) 2) s ≡ drop 2 s
+message s = rest (min (length s) 2) s ∙ go s
+  where
+    go : (s : List ℕ) → drop (min (length s) 2) s ≡ drop 2 s
+    go [] = refl
+    go (x ∷ []) = refl
+    go (x ∷ y ∷ s) = let e : min (length (x ∷ y ∷ s)) 2 ≡ 2 = omega arith in rw e
+
+-- what a step leaves in the room is its reply
+module _ (m : Module) (l s room : List ℕ) (answer : Answer) (links after : List ℕ) (p : step.Promise m l s room answer links after) where
+  pub taken : take (answer .length) after ≡ stepOf m l s room .reply
+  taken = (λ i. take (p .sent i) (p .room-after i)) ∙ replied m l s room .start
+
+  pub as-long : answer .length ≡ length (take (answer .length) after)
+  as-long = p .sent ∙ sym (ap length taken)
+
+  pub stands : answer .length ≤ length after
+  stands = omega (arith, as-long, length-take (answer .length) after)
+
+  pub fits : length (take (answer .length) after) ≤ length room
+  fits = rw taken (replied m l s room .fits)
+
+  pub told : answer ≡ answerOf (stepOf m l s room)
+  told i = record { outcome = p .outcome i; length = p .sent i; read = p .read i; next = p .next i }
+
+module _ (m : Module) (l frame room out : List ℕ) where
+  -- the promise is kept by what the turn is
+  kept : (x : Turn) → turnOf m l frame room out ≡ x → {r : Served} {links room' out' : List ℕ}
+      → r ≡ x .served → links ≡ x .links → room' ≡ x .room → out' ≡ x .out
+      → Promise m l frame room out r links room' out'
+  kept x e s n o p =
+      record {
+        served = s ∙ sym (ap (λ (t : Turn). t .served) e);
+        links-after = n ∙ sym (ap (λ (t : Turn). t .links) e);
+        room-after = o ∙ sym (ap (λ (t : Turn). t .room) e);
+        out-after = p ∙ sym (ap (λ (t : Turn). t .out) e);
+      }
+
+  pub cramped : length out ≤ 2 * length room → Promise m l frame room out Served.Cramped l room out
+  unfolding turnOf choose
+  cramped h = kept (record { served = Served.Cramped; links = l; room = room; out = out }) (rw (le-ltb (2 * length room) (length out) h)) refl refl refl refl
+
+  pub done : 2 * length room < length out → (answer : Answer) (links room' out' : List ℕ) (n : ℕ)
+      → step.Promise m l (drop 2 frame) room answer links room'
+      → n ≡ length (framed (take (answer .length) room'))
+      → out' ≡ laid (framed (take (answer .length) room')) out
+      → Promise m l frame room out (Served.Done answer n) links room' out'
+  unfolding turnOf choose
+  done h answer links room' out' n p q o =
+      let t : Step = stepOf m l (drop 2 frame) room in
+      let e : take (answer .length) room' ≡ t .reply = taken m l (drop 2 frame) room answer links room' p in
+      let a : answer ≡ answerOf t = told m l (drop 2 frame) room answer links room' p in
+      let k : n ≡ length (framed (t .reply)) = q ∙ ap (λ (z : List ℕ). length (framed z)) e in
+      kept (doneOf out t) (rw (lt-ltb (2 * length room) (length out) h)) (λ i. Served.Done (a i) (k i)) (p .memory) (p .room-after) (o ∙ ap (λ (z : List ℕ). laid (framed z) out) e)
+
+-- a frame that was served
+module _ (a : Answer) (n : ℕ) where
+  apart : {A : Type 0} → Served.Done a n ≡ Served.Cramped → A
+  apart p = absurd (let z : _≡_ {A = ℕ} 0 1 = cc in omega arith)
+
+  same : (b : Answer) (k : ℕ) → Served.Done a n ≡ Served.Done b k → (a ≡ b) × (n ≡ k)
+  same b k p = (cc, cc)
+
+-- its frames stand in `out`, and its reply in the room
+pub lies : (m : Module) (l frame room out : List ℕ) (a : Answer) (n : ℕ) (links room' out' : List ℕ)
+    → Promise m l frame room out (Served.Done a n) links room' out'
+    → (n ≤ length out') × (a .length ≤ length room')
+unfolding turnOf choose
+lies m l frame room out a n links room' out' p = go (ample room out) refl
+  where
+    t : Step
+    t = stepOf m l (drop 2 frame) room
+
+    go : (b : Bool) → ample room out ≡ b → (n ≤ length out') × (a .length ≤ length room')
+    go true q =
+        let e = same a n (answerOf t) (length (framed (t .reply))) (rw q at (p .served)) in
+        let o : out' ≡ laid (framed (t .reply)) out = rw q at (p .out-after) in
+        let r : room' ≡ t .room = rw q at (p .room-after) in
+        let k : length (t .reply) ≤ length (t .room) = omega (arith, ap length (replied m l (drop 2 frame) room .start), length-take (length (t .reply)) (t .room)) in
+        (rw o (simp length-append (omega (arith, e .1))), rw (e .0, r) k)
+    go false q = apart a n (rw q at (p .served))

@@ -1,0 +1,16 @@
+use borrow.Author.Needs.{needs}
+use borrow.Author.Tests.{eq-eqb, ne-eqb}
+use Rattle.modem.proofs.arrived.is_stop.Statement.{statement}
+use Rattle.modem.proofs.arrived.is_stop.Tie as tie
+
+pub is-stop-spec : {M : Type 1} → statement M
+is-stop-spec =
+    tie.close
+    (tie.spec
+    (λ c. search needs)
+    (λ c. rw (ne-eqb _ _ (c .if1 .taken)))
+    (λ c. search needs)
+    (λ c. rw (eq-eqb _ _ (c .before .if1 .left), eq-eqb _ _ (c .if2 .taken)))
+    (λ c. search needs)
+    (λ c. search needs)
+    (λ c. rw (eq-eqb _ _ (c .before .before .before .if1 .left), ne-eqb _ _ (c .before .before .if2 .left))))

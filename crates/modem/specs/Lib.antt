@@ -1,0 +1,4 @@
+-- Frames in and frames out.
+pub mod Arrived
+pub mod Frames
+pub mod Serve

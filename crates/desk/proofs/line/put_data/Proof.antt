@@ -1,0 +1,16 @@
+use native.Mathlib.Omega.{arith}
+use borrow.Author.Needs.{needs}
+use Rattle.basis.proofs.Counted.{counts}
+use Rattle.desk.proofs.line.put_data.Statement.{statement}
+use Rattle.desk.proofs.line.put_data.Tie as tie
+
+pub put-data-spec : {M : Type 1} → statement M
+put-data-spec =
+    tie.close
+    (tie.spec
+    (λ c. let g = c .before .before .before .args in counts (g .at) (g .line .now) (omega arith))
+    (λ c. search needs)
+    (λ c κs. search needs)
+    (λ c κs. search needs)
+    (λ c. search needs)
+    (λ c. search needs))

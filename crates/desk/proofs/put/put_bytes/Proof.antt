@@ -1,0 +1,28 @@
+use Prim.Native.Nat.{_≤_, _-_}
+use mathlib.Core.Path.{_≡_}
+use native.Mathlib.Omega.{arith}
+use lib.ListN.{length}
+use Rattle.basis.proofs.Counted.{counts}
+use Rattle.desk.proofs.put.put_bytes.Statement.{statement}
+use Rattle.desk.proofs.put.put_bytes.Tie as tie
+
+abbrev Inv-loop : tie.InvT-loop
+Inv-loop line₀ at bytes to₀ i₀ line to i = (length line ≡ length line₀) × (to ≤ length line) × (i ≤ length bytes)
+
+abbrev μ-loop : tie.MeasureT-loop
+μ-loop line₀ at bytes to₀ i₀ line to i = length bytes - i
+
+pub put-bytes-spec : {M : Type 1} → statement M
+put-bytes-spec =
+    tie.close
+    (tie.spec
+    Inv-loop
+    μ-loop
+    (λ c. omega arith)
+    (λ c. omega arith)
+    (λ c κs. omega arith)
+    (λ c. omega arith)
+    (λ c. omega arith)
+    (λ c. omega arith)
+    (λ c. omega arith)
+    (λ c. counts (c .before .loop .to) (c .before .loop .line) (omega arith)))

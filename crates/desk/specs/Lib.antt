@@ -1,0 +1,2 @@
+-- What the programs rely on from read to read.
+pub mod Input

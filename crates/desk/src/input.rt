@@ -1,0 +1,81 @@
+// Bytes from files, each read behind those that are there.
+ghost use Prim.Native.Nat.{_≤_};
+ghost use lib.ListN.{length};
+ghost use Rattle.io.specs.Counts.{Counts};
+ghost use Rattle.desk.specs.Input.{Grown};
+
+// How many bytes are there after a read.
+pub(crate) enum Got {
+    More(usize),
+    End,
+    Failed,
+}
+
+pub(crate) fn read_behind(fd: i32, bytes: &mut [u8], n: usize) -> Got
+    requires { ⌜ n ≤ length (now bytes) ⌝ }
+    ensures { λ r. ⌜ Grown n (length (now (bytes .entry))) r ⌝ }
+{
+    let free = &mut bytes[n..];
+    let got = libc::read(fd, free);
+    if got < 0 {
+        return Got::Failed;
+    }
+    let more = io::count(got, free);
+    if more == 0 {
+        return Got::End;
+    }
+    Got::More(n + more)
+}
+
+pub(crate) struct Loaded {
+    pub size: usize,
+    pub is_fine: bool,
+}
+
+// links.bin, as far as there is room; where it is missing, nothing ("The program").
+pub(crate) fn load(memory: &mut [u8]) -> Loaded
+    ensures { λ r. ⌜ Counts (r .size) (now (memory .exit)) ⌝ }
+{
+    let fd = os::open_read(b"links.bin");
+    if fd < 0 {
+        let is_missing = os::errno() == libc::ENOENT;
+        if !is_missing {
+            os::fail(b"links.bin");
+        }
+        return Loaded {
+            size: 0,
+            is_fine: is_missing,
+        };
+    }
+    let loaded = fill(fd, memory);
+    if !loaded.is_fine {
+        os::fail(b"links.bin");
+    }
+    libc::close(fd);
+    loaded
+}
+
+fn fill(fd: i32, memory: &mut [u8]) -> Loaded
+    ensures { λ r. ⌜ Counts (r .size) (now (memory .exit)) ⌝ }
+{
+    let mut n: usize = 0;
+    loop {
+        match read_behind(fd, memory, n) {
+            Got::More(k) => {
+                n = k;
+            }
+            Got::End => {
+                break Loaded {
+                    size: n,
+                    is_fine: true,
+                };
+            }
+            Got::Failed => {
+                break Loaded {
+                    size: n,
+                    is_fine: false,
+                };
+            }
+        }
+    }
+}

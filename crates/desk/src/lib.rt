@@ -1,0 +1,60 @@
+// What `bench` and `screen` share: link memory from links.bin, frames from standard input, one module ("The program").
+mod input;
+mod line;
+mod listen;
+mod put;
+
+use dimmer::state::Identity;
+use dimmer::state::Module;
+use input::load;
+use listen::Desk;
+use listen::listen;
+use wire::address::Address;
+
+// What is written for each frame.
+pub enum Show {
+    // Its reply, in frames.
+    Frames,
+    // A line for a person to read, and a count of frames by result at the end.
+    Lines,
+}
+
+// Serves what arrives until it ends. What goes wrong with a file is said on standard error, and ends it too.
+pub fn sit(show: Show) {
+    // one byte more than fits, so that a longer file is seen to be unfit
+    let mut memory = [0; 2049];
+    let loaded = load(&mut memory);
+    if !loaded.is_fine {
+        return;
+    }
+    let n = loaded.size;
+    let mut held = [0; 4096];
+    let mut room = [0; 5897];
+    let mut out = [0; 18432];
+    listen(
+        show,
+        fresh(),
+        &mut memory[..n],
+        &mut held,
+        &mut room,
+        &mut out,
+    );
+}
+
+fn fresh() -> Desk {
+    let identity = Identity {
+        address: Address {
+            high: 0x00,
+            middle: 0x10,
+            low: 0x3a,
+        },
+        category: 0x01,
+        subcategory: 0x0f,
+        firmware: 0xc1,
+        revision: 0x00,
+    };
+    Desk {
+        module: Module::fresh(identity),
+        tally: [0; 9],
+    }
+}

@@ -1,0 +1,167 @@
+// A line for a person to read: result, sender, what was asked, reply, records read, level.
+use crate::put::put;
+use crate::put::put_byte;
+use crate::put::put_bytes;
+use crate::put::put_number;
+use device::step::Answer;
+use results::number;
+use wire::read::is_extended;
+ghost use Prim.Native.Nat.{_≤_};
+ghost use lib.ListN.{length};
+ghost use Rattle.io.specs.Counts.{Counts};
+
+pub(crate) fn put_line(line: &mut [u8], frame: &[u8], a: Answer, reply: &[u8]) -> usize
+    ensures { λ r. ⌜ Counts r (now (line .exit)) ⌝ }
+{
+    let outcome = a.outcome;
+    let next = a.next;
+    let mut at = put_result(line, 0, number(outcome));
+    at = put_asked(line, at, frame);
+    at = put(line, at, b" | reply");
+    at = put_bytes(line, at, reply);
+    put_state(line, at, a.read as u64, next.level)
+}
+
+fn put_state(line: &mut [u8], at: usize, read: u64, level: u8) -> usize
+    requires { ⌜ at ≤ length (now line) ⌝ }
+    ensures { λ r. ⌜ Counts r (now (line .exit)) ⌝ }
+{
+    let mut to = put(line, at, b" | read ");
+    to = put_number(line, to, read);
+    to = put(line, to, b" | level");
+    to = put_byte(line, to, level);
+    put(line, to, b"\n")
+}
+
+// The paper's number and its name.
+fn put_result(line: &mut [u8], at: usize, result: u8) -> usize
+    requires { ⌜ at ≤ length (now line) ⌝ }
+    ensures { λ r. ⌜ Counts r (now (line .exit)) ⌝ }
+{
+    match result {
+        0 => put(line, at, b"0 carried out"),
+        1 => put(line, at, b"1 bad length"),
+        2 => put(line, at, b"2 unfit link memory"),
+        3 => put(line, at, b"3 not for us"),
+        4 => put(line, at, b"4 bad checksum"),
+        5 => put(line, at, b"5 no room"),
+        6 => put(line, at, b"6 not linked"),
+        7 => put(line, at, b"7 not listed"),
+        _ => put(line, at, b"8 no concern of ours"),
+    }
+}
+
+// The message behind the frame's two bytes.
+fn put_asked(line: &mut [u8], at: usize, frame: &[u8]) -> usize
+    requires { ⌜ at ≤ length (now line) ⌝ }
+    ensures { λ r. ⌜ Counts r (now (line .exit)) ⌝ }
+{
+    if frame.len() < 11 {
+        return at;
+    }
+    let message = &frame[2..];
+    let to = put_route(line, at, message);
+    put_command(line, to, message)
+}
+
+fn put_route(line: &mut [u8], at: usize, message: &[u8]) -> usize
+    requires { ⌜ at ≤ length (now line) ⌝ }
+    requires { ⌜ 9 ≤ length (now message) ⌝ }
+    ensures { λ r. ⌜ Counts r (now (line .exit)) ⌝ }
+{
+    let mut to = put(line, at, b" | from");
+    to = put_bytes(line, to, &message[0..3]);
+    to = put(line, to, b" to");
+    put_bytes(line, to, &message[3..6])
+}
+
+fn put_command(line: &mut [u8], at: usize, message: &[u8]) -> usize
+    requires { ⌜ at ≤ length (now line) ⌝ }
+    requires { ⌜ 9 ≤ length (now message) ⌝ }
+    ensures { λ r. ⌜ Counts r (now (line .exit)) ⌝ }
+{
+    let mut to = put_kind(line, at, message[6]);
+    to = put_bytes(line, to, &message[7..9]);
+    to = put_name(line, to, message[7], is_extended(message));
+    put_data(line, to, &message[9..])
+}
+
+fn put_data(line: &mut [u8], at: usize, data: &[u8]) -> usize
+    requires { ⌜ at ≤ length (now line) ⌝ }
+    ensures { λ r. ⌜ Counts r (now (line .exit)) ⌝ }
+{
+    if data.len() == 0 {
+        return at;
+    }
+    let to = put(line, at, b" data");
+    put_bytes(line, to, data)
+}
+
+fn put_kind(line: &mut [u8], at: usize, flags: u8) -> usize
+    requires { ⌜ at ≤ length (now line) ⌝ }
+    ensures { λ r. ⌜ Counts r (now (line .exit)) ⌝ }
+{
+    match flags / 32 {
+        0 => put(line, at, b" | direct"),
+        2 => put(line, at, b" | cleanup"),
+        6 => put(line, at, b" | broadcast"),
+        _ => put(line, at, b" | other"),
+    }
+}
+
+// What Command 1 is called in the paper's lists, in standard and in extended messages.
+fn put_name(line: &mut [u8], at: usize, one: u8, is_extended: bool) -> usize
+    requires { ⌜ at ≤ length (now line) ⌝ }
+    ensures { λ r. ⌜ Counts r (now (line .exit)) ⌝ }
+{
+    if is_extended {
+        return put_extended_name(line, at, one);
+    }
+    match one {
+        0x0d => put(line, at, b" engine version"),
+        0x0f => put(line, at, b" ping"),
+        0x10 => put(line, at, b" ID request"),
+        0x11 => put(line, at, b" on"),
+        0x12 => put(line, at, b" fast on"),
+        0x13 => put(line, at, b" off"),
+        0x14 => put(line, at, b" fast off"),
+        0x15 => put(line, at, b" brighten"),
+        0x16 => put(line, at, b" dim"),
+        0x19 => put(line, at, b" status"),
+        0x1f => put(line, at, b" get flags"),
+        0x21 => put(line, at, b" set level"),
+        0x2e => put(line, at, b" on at ramp rate"),
+        0x2f => put(line, at, b" off at ramp rate"),
+        0x30 => put(line, at, b" beep"),
+        0x39 => put(line, at, b" set per cent"),
+        _ => put(line, at, b" (not listed)"),
+    }
+}
+
+fn put_extended_name(line: &mut [u8], at: usize, one: u8) -> usize
+    requires { ⌜ at ≤ length (now line) ⌝ }
+    ensures { λ r. ⌜ Counts r (now (line .exit)) ⌝ }
+{
+    match one {
+        0x20 => put(line, at, b" set flags"),
+        0x2e => put(line, at, b" properties"),
+        0x2f => put(line, at, b" database"),
+        _ => put(line, at, b" (not listed)"),
+    }
+}
+
+// How many frames had each result.
+pub(crate) fn put_tally(line: &mut [u8], tally: [u64; 9]) -> usize
+    ensures { λ r. ⌜ Counts r (now (line .exit)) ⌝ }
+{
+    let mut at: usize = 0;
+    let mut i: usize = 0;
+    while i < 9 {
+        at = put_result(line, at, i as u8);
+        at = put(line, at, b": ");
+        at = put_number(line, at, tally[i]);
+        at = put(line, at, b"\n");
+        i += 1;
+    }
+    at
+}

@@ -1,0 +1,61 @@
+// Examples of the paper and captures of source document 003, run through the code and compared byte by byte.
+// Standard input has them as text: a word and what belongs to it on each line, `+` where a line goes on.
+//   module, links    set the module's fifteen bytes and the link memory; fill makes the memory so many bytes long
+//   keep             makes this the state that every case begins with
+//   case             begins a case; room sets its reply room, 5,897 bytes otherwise
+//   hear             is a message to the module
+//   number, searched, answer, then, database
+//                    are the result, the records read, the reply, the module and the link memory after it; `..` is any byte
+mod board;
+mod compare;
+mod text;
+
+use board::Board;
+use board::blank;
+use board::hear;
+use compare::told;
+use text::line_end;
+
+fn main() {
+    let mut text = [0; 131072];
+    let n = io::read_full(libc::STDIN_FILENO, &mut text);
+    run(&text[..n]);
+}
+
+fn run(text: &[u8]) {
+    let mut board = blank();
+    let mut at: usize = 0;
+    while at < text.len() {
+        let end = line_end(text, at);
+        board = take(board, &text[at..end]);
+        at = end;
+    }
+    finish(board);
+}
+
+fn finish(board: Board) {
+    io::print_decimal(libc::STDOUT_FILENO, board.cases);
+    io::write_all(libc::STDOUT_FILENO, b" cases, ");
+    io::print_decimal(libc::STDOUT_FILENO, board.compared);
+    io::write_all(libc::STDOUT_FILENO, b" compared, ");
+    io::print_decimal(libc::STDOUT_FILENO, board.differ);
+    io::write_all(libc::STDOUT_FILENO, b" differ\n");
+}
+
+// The first letter of a line decides.
+fn take(board: Board, line: &[u8]) -> Board {
+    if line.len() == 0 {
+        return board;
+    }
+    match line[0] {
+        b'#' | b'\n' => board,
+        b'm' => board.with_module(line),
+        b'l' => board.with_links(line),
+        b'f' => board.filled(line),
+        b'k' => board.kept(),
+        b'c' => board.started(line),
+        b'r' => board.with_room(line),
+        b'h' => hear(board, line),
+        _ => told(board, line),
+    }
+}

@@ -1,10 +1,8 @@
-use Prim.Native.Nat.{_≤_}
-use mathlib.Core.Path.{sym, _∙_}
+use mathlib.Core.Path.{sym}
 use native.Mathlib.Omega.{arith}
-use lib.ListN.{length, length-append}
+use lib.ListN.{length-append}
 use lib.Seq.{length-take-le}
 use borrow.Author.Needs.{needs}
-use Rattle.basis.proofs.Counted.{counts}
 use Rattle.desk.proofs.listen.hear.Statement.{statement}
 use Rattle.desk.proofs.listen.hear.Tie as tie
 

@@ -1,11 +1,10 @@
 -- The bytes before i are moved, and those from i on stand as they stood.
 use Prim.Native.Nat.{ℕ, _≤_, _<_, _-_, _+_}
 use mathlib.Core.Path.{_≡_, refl, sym, _∙_, ap}
-use mathlib.Core.List.{List, [], _++_}
+use mathlib.Core.List.{List, _++_}
 use native.Mathlib.Omega.{arith}
 use lib.ListN.{length, take, drop, set, getD, length-set, length-drop, drop-of-length-le}
 use lib.Seq.{length-take-le, take-all, getD-append-add, getD-drop}
-use Rattle.basis.specs.Laid.{laid}
 use Rattle.basis.proofs.Laid.{copied}
 use Rattle.modem.proofs.arrived.keep.Statement.{statement}
 use Rattle.modem.proofs.arrived.keep.Tie as tie

@@ -1,7 +1,6 @@
 -- What is left to look at from place k on stops where the whole stops.
 use Prim.Native.Nat.{pred, _≤_, _-_, _+_}
 use mathlib.Core.Path.{_≡_, sym, _∙_}
-use mathlib.Core.Bool.{true, false}
 use native.Mathlib.Nat.{sub-zero}
 use native.Mathlib.Omega.{arith}
 use lib.ListN.{length}

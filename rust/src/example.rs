@@ -1,0 +1,149 @@
+//! Examples as the paper gives them, each run by the library and by the second reading.
+
+use crate::library::{self, Image};
+use crate::paper::{self, Address, Module, Outcome, BENCH};
+
+pub const LINKED: Address = [0xAA, 0xBB, 0xCC];
+pub const STRANGER: Address = [0x11, 0x22, 0x33];
+
+/// "Bench examples": the link memory that each starts from.
+#[rustfmt::skip]
+pub const LINKS: [u8; 16] = [
+    0xA2, 0x01, 0xAA, 0xBB, 0xCC, 0x80, 0x1C, 0x01,
+    0x00, 0x00, 0x00, 0x00, 0x00, 0x00, 0x00, 0x00,
+];
+
+/// What a room holds before the call.
+const BLANK: u8 = 0xEE;
+const ENOUGH: usize = 64;
+
+/// A message on its way to a module: all that the paper lets an example start from.
+#[derive(Clone)]
+pub struct Example {
+    pub module: Module,
+    pub links: Vec<u8>,
+    pub room: usize,
+    pub message: Vec<u8>,
+}
+
+/// What it must come to; what is not named stays as it was.
+#[derive(Clone)]
+pub struct Comes {
+    pub result: u8,
+    pub read: usize,
+    pub reply: Vec<u8>,
+    pub module: Module,
+    pub links: Vec<u8>,
+}
+
+impl Example {
+    /// `message` from the start that the paper describes.
+    pub fn of(message: Vec<u8>) -> Self {
+        Self {
+            module: Module::fresh(BENCH),
+            links: LINKS.to_vec(),
+            room: ENOUGH,
+            message,
+        }
+    }
+
+    pub fn direct(from: Address, command1: u8, command2: u8) -> Self {
+        Self::of(standard(from, BENCH.address, 0x0F, [command1, command2]))
+    }
+
+    pub fn extended(from: Address, command1: u8, command2: u8, data: [u8; 14]) -> Self {
+        let mut message = standard(from, BENCH.address, 0x1F, [command1, command2]);
+        message.extend(data);
+        Self::of(message)
+    }
+
+    pub fn cleanup(from: Address, command1: u8, group: u8) -> Self {
+        Self::of(standard(from, BENCH.address, 0x4F, [command1, group]))
+    }
+
+    pub fn broadcast(from: Address, command1: u8, group: u8) -> Self {
+        Self::of(standard(from, [0x00, 0x00, group], 0xCF, [command1, 0x00]))
+    }
+
+    /// With a module that is not fresh.
+    pub fn starting(mut self, change: impl Fn(&mut Module)) -> Self {
+        change(&mut self.module);
+        self
+    }
+
+    pub fn links(mut self, links: &[u8]) -> Self {
+        self.links = links.to_vec();
+        self
+    }
+
+    pub fn room(mut self, room: usize) -> Self {
+        self.room = room;
+        self
+    }
+
+    /// Runs both implementations and compares all that they leave behind.
+    pub fn comes_to(&self, result: u8, read: usize, reply: &[u8], change: impl Fn(&mut Comes)) {
+        let mut comes = Comes {
+            result,
+            read,
+            reply: reply.to_vec(),
+            module: self.module,
+            links: self.links.clone(),
+        };
+        change(&mut comes);
+        self.run_library(&comes);
+        self.run_paper(&comes);
+    }
+
+    /// The same for an example that alters neither module nor link memory.
+    pub fn only_answers(&self, result: u8, read: usize, reply: &[u8]) {
+        self.comes_to(result, read, reply, |_| {});
+    }
+
+    fn run_library(&self, comes: &Comes) {
+        let (mut image, mut links) = (library::image(&self.module), self.links.clone());
+        let mut room = vec![BLANK; self.room];
+        let outcome = library::step(&mut image, &mut links, &self.message, &mut room);
+        self.compare("library", outcome, image, &links, &room, comes);
+    }
+
+    fn run_paper(&self, comes: &Comes) {
+        let (mut module, mut links) = (self.module, self.links.clone());
+        let mut room = vec![BLANK; self.room];
+        let outcome = paper::step(&mut module, &mut links, &self.message, &mut room);
+        let image = library::image(&module);
+        self.compare("second reading", outcome, image, &links, &room, comes);
+    }
+
+    fn compare(
+        &self,
+        by: &str,
+        outcome: Outcome,
+        image: Image,
+        links: &[u8],
+        room: &[u8],
+        comes: &Comes,
+    ) {
+        let what = format!("{by}, message {:02X?}", self.message);
+        let expected = Outcome {
+            result: comes.result,
+            length: comes.reply.len(),
+            read: comes.read,
+        };
+        let mut expected_room = vec![BLANK; self.room];
+        expected_room[..comes.reply.len()].copy_from_slice(&comes.reply);
+        assert_eq!(outcome, expected, "{what}");
+        assert_eq!(image, library::image(&comes.module), "{what}");
+        assert_eq!(links, comes.links, "{what}");
+        assert_eq!(room, expected_room, "{what}");
+    }
+}
+
+/// A reply of one standard message from the bench dimmer.
+pub fn reply(to: Address, flags: u8, command1: u8, command2: u8) -> Vec<u8> {
+    standard(BENCH.address, to, flags, [command1, command2])
+}
+
+fn standard(from: Address, to: Address, flags: u8, commands: [u8; 2]) -> Vec<u8> {
+    [&from[..], &to, &[flags], &commands].concat()
+}

@@ -1,0 +1,20 @@
+//! The paper "The bench dimmer" read a second time, apart from the proved code, and what it takes to hold the two side by side.
+//!
+//! - `paper`: the second reading, from the paper's words alone
+//! - `library`, `program`: the proved code, as a call and as program `bench`
+//! - `random`, `messages`, `tally`: what is sent to both, and how often what came up
+//! - `framing`: modem frames, for the tests of the program
+//! - `example`: a message, and all that it must come to
+//!
+//! `cargo test` compares, `cargo run --release --bin speed` measures; both in this folder.
+
+#![deny(unsafe_code)]
+
+pub mod example;
+pub mod framing;
+pub mod library;
+pub mod messages;
+pub mod paper;
+pub mod program;
+pub mod random;
+pub mod tally;

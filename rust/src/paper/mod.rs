@@ -1,0 +1,20 @@
+//! The paper in plain Rust, in the order of its headings. Nothing here was taken from the proved code.
+
+#![forbid(unsafe_code)]
+
+pub mod change;
+pub mod checksum;
+pub mod extended;
+pub mod groups;
+pub mod links;
+pub mod message;
+pub mod module;
+pub mod reply;
+pub mod standard;
+pub mod step;
+
+pub use module::{Address, Identity, Module, BENCH};
+pub use step::{step, Outcome};
+
+/// "The program": the longest reply, an ACK and 256 records.
+pub const LONGEST_REPLY: usize = 5897;

@@ -1,0 +1,165 @@
+//! One call: "Result numbers" with their order.
+
+use super::change::Change;
+use super::links::{self, Record};
+use super::message::{Kind, Message};
+use super::module::{Address, Module};
+use super::reply::Reply;
+use super::{checksum, extended, groups, standard};
+
+const NOT_LINKED: u8 = 0xFF;
+const NOT_LISTED: u8 = 0xFB;
+
+/// What comes back with every message, beside what the call altered.
+#[derive(Clone, Copy, Debug, PartialEq, Eq)]
+pub struct Outcome {
+    pub result: u8,
+    /// Bytes of the reply, at the start of the room.
+    pub length: usize,
+    /// Records read by the search.
+    pub read: usize,
+}
+
+/// What a well-formed message comes to if the room is long enough.
+struct Verdict<'a> {
+    result: u8,
+    read: usize,
+    reply: Reply,
+    change: Change<'a>,
+}
+
+impl<'a> Verdict<'a> {
+    fn carried_out(read: usize, change: Change<'a>, reply: Reply) -> Self {
+        Self {
+            result: 0,
+            read,
+            reply,
+            change,
+        }
+    }
+
+    fn refused(result: u8, read: usize, reply: Reply) -> Self {
+        Self {
+            result,
+            read,
+            reply,
+            change: Change::Nothing,
+        }
+    }
+}
+
+/// Serves one message. Everything is decided and measured before the first byte is altered.
+pub fn step(module: &mut Module, links: &mut [u8], message: &[u8], room: &mut [u8]) -> Outcome {
+    let (kind, message) = match hear(module.identity.address, links, message) {
+        Ok(heard) => heard,
+        Err(result) => {
+            return Outcome {
+                result,
+                length: 0,
+                read: 0,
+            }
+        }
+    };
+    let (records, _) = links.as_chunks();
+    let verdict = decide(module, records, kind, &message);
+    let (length, read) = (verdict.reply.length(), verdict.read);
+    if room.len() < length {
+        return Outcome {
+            result: 5,
+            length: 0,
+            read,
+        };
+    }
+    verdict.reply.lay(module, records, message.from, room);
+    verdict.change.apply(module, links);
+    Outcome {
+        result: verdict.result,
+        length,
+        read,
+    }
+}
+
+/// Results 2, 1, 3 and 4, in this order; a message that gets past them is well-formed.
+fn hear<'a>(own: Address, links: &[u8], bytes: &'a [u8]) -> Result<(Kind, Message<'a>), u8> {
+    if !links::fit(links) {
+        return Err(2);
+    }
+    let message = Message::read(bytes).ok_or(1)?;
+    let kind = message.kind().ok_or(3)?;
+    let ours = match kind {
+        Kind::Direct => message.to == own,
+        Kind::Cleanup => message.data.is_none() && message.to == own,
+        Kind::Broadcast => message.data.is_none(),
+    };
+    if !ours {
+        return Err(3);
+    }
+    match message.data {
+        Some(data) if !checksum::passes(message.command1, message.command2, data) => Err(4),
+        _ => Ok((kind, message)),
+    }
+}
+
+fn decide<'a>(
+    module: &Module,
+    records: &[Record],
+    kind: Kind,
+    message: &Message<'a>,
+) -> Verdict<'a> {
+    match kind {
+        Kind::Direct => direct(module, records, message),
+        Kind::Cleanup => cleanup(records, message),
+        Kind::Broadcast => broadcast(records, message),
+    }
+}
+
+fn direct<'a>(module: &Module, records: &[Record], message: &Message<'a>) -> Verdict<'a> {
+    let (command1, command2) = (message.command1, message.command2);
+    if message.data.is_none() {
+        if let Some(reply) = standard::open_to_all(command1, command2) {
+            return Verdict::carried_out(0, Change::Nothing, reply);
+        }
+    }
+    let search = links::linked(records, message.from);
+    if search.found.is_none() {
+        return Verdict::refused(6, search.read, Reply::nak(command1, NOT_LINKED));
+    }
+    let answer = match message.data {
+        None => standard::carry_out(module, command1, command2),
+        Some(data) => extended::carry_out(module, records, command1, command2, data),
+    };
+    match answer {
+        Some((change, reply)) => Verdict::carried_out(search.read, change, reply),
+        None => Verdict::refused(7, search.read, Reply::nak(command1, NOT_LISTED)),
+    }
+}
+
+fn broadcast<'a>(records: &[Record], message: &Message) -> Verdict<'a> {
+    let Some(group) = groups::broadcast_group(message) else {
+        return Verdict::refused(8, 0, Reply::None);
+    };
+    let search = links::responder(records, message.from, group);
+    let level = search
+        .found
+        .and_then(|record| groups::level(record, message.command1));
+    match level {
+        Some(level) => Verdict::carried_out(search.read, Change::Level(level), Reply::None),
+        None => Verdict::refused(8, search.read, Reply::None),
+    }
+}
+
+fn cleanup<'a>(records: &[Record], message: &Message) -> Verdict<'a> {
+    let (command1, group) = (message.command1, message.command2);
+    let search = links::responder(records, message.from, group);
+    let Some(record) = search.found else {
+        return Verdict::refused(6, search.read, Reply::cleanup_nak(command1, NOT_LINKED));
+    };
+    match groups::level(record, command1) {
+        Some(level) => Verdict::carried_out(
+            search.read,
+            Change::Level(level),
+            Reply::cleanup_ack(command1, group),
+        ),
+        None => Verdict::refused(7, search.read, Reply::cleanup_nak(command1, NOT_LISTED)),
+    }
+}

@@ -1,3 +1,4 @@
 -- Laws of a call.
 pub mod Finished
 pub mod Replied
+pub mod Lasting

@@ -1,3 +1,4 @@
 -- Laws of plans.
 pub mod Shape
 pub mod Sender
+pub mod Lasting

@@ -2,20 +2,20 @@
 use Prim.Native.Nat.{ℕ, _≤_}
 use mathlib.Core.Path.{_≡_, refl, sym, _∙_, ap}
 use mathlib.Core.Bool.{false}
-use mathlib.Core.List.{List, [], _∷_, _++_, append-nil}
-use native.Mathlib.Nat.{le-of-eq}
+use mathlib.Core.List.{List, [], _∷_}
 use native.Mathlib.Omega.{arith}
-use lib.ListN.{length, set, drop-of-length-le}
+use lib.ListN.{length, set}
 use borrow.Author.Tests.{eq-eqb, le-leb}
 use Rattle.basis.specs.Choice.{choose}
-use Rattle.basis.specs.Laid.{laid, laidIn}
-use Rattle.basis.proofs.Laid.{fits}
+use Rattle.basis.specs.Laid.{laid}
 use Rattle.results.specs.Number.{numberOf}
+use Rattle.dimmer.specs.declared.state.Identity.{Identity}
 use Rattle.dimmer.specs.declared.state.Module.{Module}
 use Rattle.device.specs.declared.step.Answer.{Answer}
 use Rattle.device.specs.Step
 use Rattle.device.specs.Step.{stepOf}
-use Rattle.embed.specs.Image.{moduleOf, imageOf}
+use Rattle.device.proofs.Lasting.{same-identity}
+use Rattle.embed.specs.Image.{moduleOf, imageBy, imageOf}
 use Rattle.embed.specs.Call.{Call, placed, servedOf, callOf, Promise}
 
 -- an image holds the whole module: what one call leaves is what the next one finds
@@ -40,13 +40,6 @@ module _ (image links message room report : List ℕ) where
   unfolding callOf choose
   refused e = kept (record { number = 255; image = image; links = links; room = room; report = report }) (rw e) refl refl refl refl refl
 
--- an image takes the place of another
-replaced : (image : List ℕ) (m : Module) → length image ≡ 15 → laidIn image (imageOf m) ≡ imageOf m
-replaced image m n =
-    fits image (imageOf m) (omega arith)
-    ∙ ap (λ (z : List ℕ). imageOf m ++ z) (drop-of-length-le image (le-of-eq n))
-    ∙ append-nil (imageOf m)
-
 -- two numbers stored one by one
 stored : (report : List ℕ) (a b : ℕ) → 2 ≤ length report → set (set report 0 a) 1 b ≡ laid (a ∷ b ∷ []) report
 stored [] a b h = absurd (omega arith)
@@ -54,9 +47,12 @@ stored (x ∷ []) a b h = absurd (omega arith)
 stored (x ∷ y ∷ report) a b h = refl
 
 module _ (image links message room report : List ℕ) (n : length image ≡ 15) (h : 2 ≤ length report) where
+  lasting : (answer : Answer) (links' room' : List ℕ) → Step.Promise (moduleOf image) links message room answer links' room' → answer .next .identity ≡ moduleOf image .identity
+  lasting answer links' room' p = ap (λ (m : Module). m .identity) (p .next) ∙ same-identity (moduleOf image) links message room
+
   pub served : (answer : Answer) (links' room' image' : List ℕ) (r : ℕ)
       → Step.Promise (moduleOf image) links message room answer links' room'
-      → image' ≡ laidIn image (imageOf (answer .next))
+      → image' ≡ imageBy (moduleOf image .identity) (answer .next)
       → r ≡ numberOf (answer .outcome)
       → Promise image links message room report r image' links' room' (set (set report 0 (answer .length)) 1 (answer .read))
   unfolding callOf choose
@@ -64,7 +60,7 @@ module _ (image links message room report : List ℕ) (n : length image ≡ 15) 
       kept image links message room report (servedOf report (stepOf (moduleOf image) links message room))
       (rw (eq-eqb (length image) 15 n, le-leb 2 (length report) h))
       (q ∙ ap numberOf (p .outcome))
-      (i ∙ replaced image (answer .next) n ∙ ap imageOf (p .next))
+      (i ∙ ap (λ (x : Identity). imageBy x (answer .next)) (sym (lasting answer links' room' p)) ∙ ap imageOf (p .next))
       (p .memory)
       (p .room-after)
       (stored report (answer .length) (answer .read) h ∙ (λ j. laid (p .sent j ∷ p .read j ∷ []) report))

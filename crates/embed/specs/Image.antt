@@ -2,6 +2,7 @@
 use Prim.Native.Nat.{ℕ}
 use mathlib.Core.List.{List, [], _∷_}
 use lib.ListN.{getD}
+use Rattle.dimmer.specs.declared.state.Identity.{Identity}
 use Rattle.dimmer.specs.declared.state.Module.{Module}
 
 abbrev pub moduleOf : List ℕ → Module
@@ -14,10 +15,14 @@ moduleOf s =
       delta = getD s 14 0;
     }
 
-abbrev pub imageOf : Module → List ℕ
-imageOf m =
-    m .identity .address .high ∷ m .identity .address .middle ∷ m .identity .address .low ∷
-    m .identity .category ∷ m .identity .subcategory ∷ m .identity .firmware ∷ m .identity .revision ∷
+-- the values of m, for a module of this identity
+abbrev pub imageBy : Identity → Module → List ℕ
+imageBy i m =
+    i .address .high ∷ i .address .middle ∷ i .address .low ∷
+    i .category ∷ i .subcategory ∷ i .firmware ∷ i .revision ∷
     m .level ∷ m .flags ∷
     m .properties .ramp ∷ m .properties .«on_level» ∷ m .properties .led ∷ m .properties .house ∷ m .properties .unit ∷
     m .delta ∷ []
+
+abbrev pub imageOf : Module → List ℕ
+imageOf m = imageBy (m .identity) m

@@ -1,6 +1,6 @@
 // One message to the module that an image holds.
-use crate::image::image_of;
 use crate::image::module_of;
+use crate::image::store;
 use device::step::step;
 use results::number;
 ghost use Rattle.embed.specs.Call.{Promise};
@@ -27,8 +27,7 @@ pub extern "C" fn dreelish_step(
     let m = module_of(image);
     let answer = step(m, links, message, room);
     let next = answer.next;
-    let bytes = image_of(next);
-    basis::lay(image, &bytes);
+    store(image, next);
     report[0] = answer.length as u64;
     report[1] = answer.read as u64;
     let outcome = answer.outcome;

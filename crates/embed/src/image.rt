@@ -5,7 +5,7 @@ use reply::due::Properties;
 use wire::address::Address;
 ghost use mathlib.Core.Path.{_≡_};
 ghost use lib.ListN.{length};
-ghost use Rattle.embed.specs.Image.{moduleOf, imageOf};
+ghost use Rattle.embed.specs.Image.{moduleOf, imageBy};
 
 pub(crate) fn module_of(image: &[u8]) -> Module
     requires { ⌜ length (now image) ≡ 15 ⌝ }
@@ -50,27 +50,18 @@ fn properties_of(image: &[u8]) -> Properties
     }
 }
 
-pub(crate) fn image_of(m: Module) -> [u8; 15]
-    ensures { λ r. ⌜ r ≡ imageOf m ⌝ }
+// The values that a message may alter; who the module is stays, as no message alters that.
+pub(crate) fn store(image: &mut [u8], m: Module)
+    requires { ⌜ length (now image) ≡ 15 ⌝ }
+    ensures { λ _. ⌜ now (image .exit) ≡ imageBy (moduleOf (now (image .entry)) .identity) m ⌝ }
 {
-    let i = m.identity;
-    let a = i.address;
     let p = m.properties;
-    [
-        a.high,
-        a.middle,
-        a.low,
-        i.category,
-        i.subcategory,
-        i.firmware,
-        i.revision,
-        m.level,
-        m.flags,
-        p.ramp,
-        p.on_level,
-        p.led,
-        p.house,
-        p.unit,
-        m.delta,
-    ]
+    image[7] = m.level;
+    image[8] = m.flags;
+    image[9] = p.ramp;
+    image[10] = p.on_level;
+    image[11] = p.led;
+    image[12] = p.house;
+    image[13] = p.unit;
+    image[14] = m.delta;
 }

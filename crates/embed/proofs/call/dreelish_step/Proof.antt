@@ -18,8 +18,6 @@ dreelish-step-spec =
     (λ c κs. search needs)
     (λ c κs. search needs)
     (λ c. search needs)
-    (λ c κs. search needs)
-    (λ c. search needs)
     (λ c. search needs)
     (λ c κs. search needs)
     (λ c. search needs)
@@ -28,8 +26,8 @@ dreelish-step-spec =
     (λ c. search needs)
     (λ c. search needs)
     (λ c.
-    let g = c .before .before .before .before .before .before .before .before .before .before .before .before .before .before .before .before .before .before .before .before .before .before .before .before .args in
-    served (g .image .now) (g .links .now) (g .message .now) (g .room .now) (g .report .now) (c .before .before .before .before .before .before .before .before .before .before .before .before .before .before .before .before .before .before .if1 .left) (c .before .before .before .before .before .before .before .before .before .before .before .before .before .before .before .before .before .if2 .left) (c .before .before .before .before .before .before .before .before .before .before .before .before .step .result) _ _ _ _
-    (rw (c .before .before .before .before .before .before .before .before .before .before .before .before .before .before .before .module-of .ensures) at (c .before .before .before .before .before .before .before .before .before .before .before .before .step .ensures))
-    (rw (c .before .before .before .before .before .before .image-of .ensures) at (c .before .before .before .lay .ensures))
+    let g = c .before .before .before .before .before .before .before .before .before .before .before .before .before .before .before .before .before .before .before .before .before .before .args in
+    served (g .image .now) (g .links .now) (g .message .now) (g .room .now) (g .report .now) (c .before .before .before .before .before .before .before .before .before .before .before .before .before .before .before .before .if1 .left) (c .before .before .before .before .before .before .before .before .before .before .before .before .before .before .before .if2 .left) (c .before .before .before .before .before .before .before .before .before .before .step .result) _ _ _ _
+    (rw (c .before .before .before .before .before .before .before .before .before .before .before .before .before .module-of .ensures) at (c .before .before .before .before .before .before .before .before .before .before .step .ensures))
+    (c .before .before .before .store .ensures)
     (c .number .ensures)))

@@ -28,8 +28,10 @@ pub fn sit(show: Show) {
         return;
     }
     let n = loaded.size;
+    // less than one frame ever waits, so a read always has room
     let mut held = [0; 4096];
     let mut room = [0; 5897];
+    // the frames of the longest reply, or its line
     let mut out = [0; 18432];
     listen(
         show,

@@ -1,6 +1,6 @@
 //! The paper "The bench dimmer" read a second time, apart from the proved code, and what it takes to hold the two side by side.
 //!
-//! - `paper`: the second reading, from the paper's words alone
+//! - `paper`: the second reading, from the paper's words and what was decided on its open points
 //! - `library`, `program`: the proved code, as a call and as program `bench`
 //! - `random`, `messages`, `tally`: what is sent to both, and how often what came up
 //! - `framing`: modem frames, for the tests of the program

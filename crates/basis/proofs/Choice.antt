@@ -1,7 +1,8 @@
 -- What holds of both arms holds of a choice.
 use mathlib.Core.Path.{_≡_, refl}
-use mathlib.Core.Bool.{Bool, true, false}
+use mathlib.Core.Bool.{Bool, true, false, _||_}
 use Rattle.basis.specs.Choice.{choose}
+use Rattle.basis.proofs.Tests.{clash}
 
 pub either : {A : Type 0} (P : A → Type 0) (b : Bool) {x y : A} → P x → P y → P (choose b x y)
 unfolding choose
@@ -19,3 +20,16 @@ pub beside : {A B : Type 0} (P : A → B → Type 0) (b : Bool) {x y : A} {u v :
 unfolding choose
 beside P true p q = p
 beside P false p q = q
+
+-- either of two tests opens the way to x
+pub opens : {A : Type 0} (a b : Bool) (x y : A) → a || b ≡ true → choose a x (choose b x y) ≡ x
+unfolding choose
+opens true b x y e = refl
+opens false true x y e = refl
+opens false false x y e = clash e refl
+
+pub shuts : {A : Type 0} (a b : Bool) (x y : A) → a || b ≡ false → choose a x (choose b x y) ≡ y
+unfolding choose
+shuts true b x y e = clash refl e
+shuts false true x y e = clash refl e
+shuts false false x y e = refl

@@ -25,6 +25,9 @@ copied room bytes j hr hb = rw add-one (simp zero-add at (paste-suc room 0 bytes
 pub rest : (a : ℕ) (xs : List ℕ) → midOf a (length xs - a) xs ≡ drop a xs
 rest a xs = take-all (length xs - a) (drop a xs) (le-of-eq (length-drop a xs))
 
+pub lent : (a : ℕ) (xs : List ℕ) → length (midOf a (length xs - a) xs) ≡ length xs - a
+lent a xs = ap length (rest a xs) ∙ length-drop a xs
+
 -- put back, it is all that stands behind
 pub back : (a : ℕ) (xs ys : List ℕ) → putMid a (length xs - a) xs ys ≡ take a xs ++ ys
 back a xs ys =

@@ -13,3 +13,10 @@ both false b p = clash refl (sym p)
 pub neither : (a b : Bool) → a || b ≡ false → (a ≡ false) × (b ≡ false)
 neither true b p = clash refl p
 neither false b p = (refl, p)
+
+-- two tests that hold together are one
+pub same : (a b : Bool) → (a ≡ true → b ≡ true) → (b ≡ true → a ≡ true) → a ≡ b
+same true true f g = refl
+same true false f g = sym (f refl)
+same false true f g = g refl
+same false false f g = refl

@@ -1,5 +1,6 @@
-// What every layer is written with. Its definitions stand in specs/ and their laws in proofs/; its one function is the loop that lays bytes.
+// What every layer is written with. Its definitions stand in specs/ and their laws in proofs/; it has the loop that lays bytes, and the lesser of two numbers.
 ghost use mathlib.Core.Path.{_≡_};
+ghost use Prim.Native.Nat.{min};
 ghost use Rattle.basis.specs.Laid.{laidIn};
 
 // The bytes over the start of the room; what stands behind them stays. Where they do not fit, nothing is written.
@@ -14,4 +15,10 @@ pub fn lay(room: &mut [u8], bytes: &[u8])
         room[i] = bytes[i];
         i += 1;
     }
+}
+
+pub fn least(a: usize, b: usize) -> usize
+    ensures { λ r. ⌜ r ≡ min a b ⌝ }
+{
+    if a < b { a } else { b }
 }

@@ -2,9 +2,8 @@
 use crate::text::bare_size;
 use crate::text::bytes_in;
 use crate::text::number_in;
+use basis::least;
 use embed::call::dreelish_step;
-ghost use mathlib.Core.Path.{_≡_};
-ghost use Prim.Native.Nat.{min};
 ghost use Rattle.io.specs.Counts.{Counts};
 
 // What the room holds before a message.
@@ -176,12 +175,6 @@ fn copy(bytes: &[u16], to: &mut [u8]) -> usize
         i += 1;
     }
     i
-}
-
-fn least(a: usize, b: usize) -> usize
-    ensures { λ r. ⌜ r ≡ min a b ⌝ }
-{
-    if a < b { a } else { b }
 }
 
 fn low(x: u16) -> u8 {

@@ -12,7 +12,7 @@ use borrow.Author.Tests.{eq-eqb, ne-eqb, eqb-true, eqb-false, leb-true, leb-fals
 use Rattle.basis.specs.Choice.{choose}
 use Rattle.basis.specs.First.{firstFrom}
 use Rattle.basis.proofs.First.{Told, told, unique, skipped, shifted}
-use Rattle.basis.proofs.Tests.{clash}
+use Rattle.basis.proofs.Tests.{clash, same}
 use Rattle.modem.specs.declared.arrived.Seen.{Seen}
 use Rattle.modem.specs.Arrived.{stopsAt, placeOf, sizeAt, seenAt, seekOf}
 use Rattle.modem.proofs.Placed.{inside, whole, cut, found, waits}
@@ -21,13 +21,6 @@ use Rattle.modem.proofs.Placed.{inside, whole, cut, found, waits}
 abbrev pub moved : ℕ → Seen → Seen
 moved k (Seen.Whole i n) = Seen.Whole (k + i) n
 moved k (Seen.Waiting i) = Seen.Waiting (k + i)
-
--- two tests that hold together
-same : (a b : Bool) → (a ≡ true → b ≡ true) → (b ≡ true → a ≡ true) → a ≡ b
-same true true f g = refl
-same true false f g = sym (f refl)
-same false true f g = g refl
-same false false f g = refl
 
 -- bytes that arrive behind alter no place before the last byte
 keeps : (s t : List ℕ) (j : ℕ) → j + 1 < length s → stopsAt (s ++ t) j ≡ stopsAt s j

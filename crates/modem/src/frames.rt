@@ -1,7 +1,8 @@
 // Replies as frames: 02 50 before each standard message and 02 51 before each extended one ("The program").
+use basis::least;
 use wire::read::is_extended;
 ghost use mathlib.Core.Path.{_≡_};
-ghost use Prim.Native.Nat.{min, _+_, _*_, _≤_, _<_};
+ghost use Prim.Native.Nat.{_+_, _*_, _≤_, _<_};
 ghost use lib.ListN.{length};
 ghost use Rattle.basis.specs.Laid.{laid, laidIn};
 ghost use Rattle.modem.specs.Frames.{sortOf, frameOf, messageSize, framed};
@@ -34,12 +35,6 @@ fn message_size(reply: &[u8]) -> usize
     } else {
         least(n, 9)
     }
-}
-
-pub(crate) fn least(a: usize, b: usize) -> usize
-    ensures { λ r. ⌜ r ≡ min a b ⌝ }
-{
-    if a < b { a } else { b }
 }
 
 // What follows 02.

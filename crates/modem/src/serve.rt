@@ -1,6 +1,6 @@
 // One whole frame to one module: frame in, module and link memory on, frames out ("The program").
-use crate::frames::least;
 use crate::frames::put_frames;
+use basis::least;
 use device::step::Answer;
 use device::step::step;
 use dimmer::state::Module;

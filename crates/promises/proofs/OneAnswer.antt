@@ -54,6 +54,7 @@ pub each-once : EachOnce
 each-once =
     record {
       lay = λ _ _. by-value _;
+      least = λ _ _. by-value _;
       equals = λ _ _. by-value _;
       read-standard = λ _. by-value _;
       read-extended = λ _. by-value _;

@@ -1,5 +1,5 @@
 -- One answer only: two results that a public function's promise allows are equal ("What the promises have to say").
-use Prim.Native.Nat.{ℕ}
+use Prim.Native.Nat.{ℕ, min}
 use mathlib.Core.Path.{_≡_}
 use mathlib.Core.Bool.{Bool}
 use mathlib.Core.List.{List}
@@ -64,6 +64,7 @@ pub record Called : Type 0 where
 -- every public function, crate by crate, lowest first
 pub record EachOnce : Type 0 where
   pub lay : (room bytes : List ℕ) → Only (λ (after : List ℕ). after ≡ laidIn room bytes)
+  pub least : (a b : ℕ) → Only (λ (r : ℕ). r ≡ min a b)
   pub equals : (a b : Address) → Only (λ (r : Bool). r ≡ sameAddress a b)
   pub read-standard : (one : ℕ) → Only (λ (r : Standard). r ≡ standardOf one)
   pub read-extended : (one : ℕ) → Only (λ (r : Extended). r ≡ extendedOf one)

@@ -1,7 +1,6 @@
-use mathlib.Core.Path.{_≡_, refl, sym, _∙_}
-use mathlib.Core.Bool.{Bool, true, false, _||_}
-use Rattle.basis.specs.Choice.{choose}
-use Rattle.basis.proofs.Tests.{clash}
+use mathlib.Core.Path.{_≡_, sym, _∙_}
+use mathlib.Core.Bool.{true, false, _||_}
+use Rattle.basis.proofs.Choice.{opens, shuts}
 use Rattle.links.proofs.Stop.{by-found}
 use Rattle.links.specs.Search.{isFound}
 use Rattle.reply.specs.declared.due.Sort.{Sort}
@@ -11,19 +10,6 @@ use Rattle.dimmer.specs.Decide.{needsNoLink, commandPlan, directPlan}
 use borrow.Author.Needs.{needs}
 use Rattle.dimmer.proofs.decide.direct_plan.Statement.{statement}
 use Rattle.dimmer.proofs.decide.direct_plan.Tie as tie
-
--- either test opens the way to x
-open-to : {A : Type 0} (a b : Bool) (x y : A) → a || b ≡ true → choose a x (choose b x y) ≡ x
-unfolding choose
-open-to true b x y e = refl
-open-to false true x y e = refl
-open-to false false x y e = clash e refl
-
-shut-to : {A : Type 0} (a b : Bool) (x y : A) → a || b ≡ false → choose a x (choose b x y) ≡ y
-unfolding choose
-shut-to true b x y e = clash refl e
-shut-to false true x y e = clash refl e
-shut-to false false x y e = refl
 
 pub direct-plan-spec : {M : Type 1} → statement M
 unfolding directPlan
@@ -38,11 +24,11 @@ direct-plan-spec =
     let x : Plan = commandPlan (g .m) (g .from) (g .c) (g .«data») (g .records) (g .command) in
     let y : Plan = unlinked (g .m) Sort.Nak (g .from) (g .c .one) in
     let e : needsNoLink (g .c) (g .command) || isFound (g .found) ≡ true = rw (c .before .before .before .needs-no-link .ensures, c .before .before .is-found .ensures) at (c .before .if1 .taken) in
-    rw (by-found (g .found) x y) (c .command-plan .ensures ∙ sym (open-to (needsNoLink (g .c) (g .command)) (isFound (g .found)) x y e)))
+    rw (by-found (g .found) x y) (c .command-plan .ensures ∙ sym (opens (needsNoLink (g .c) (g .command)) (isFound (g .found)) x y e)))
     (λ c κs. search needs)
     (λ c.
     let g = c .before .before .before .before .args in
     let x : Plan = commandPlan (g .m) (g .from) (g .c) (g .«data») (g .records) (g .command) in
     let y : Plan = unlinked (g .m) Sort.Nak (g .from) (g .c .one) in
     let e : needsNoLink (g .c) (g .command) || isFound (g .found) ≡ false = rw (c .before .before .before .needs-no-link .ensures, c .before .before .is-found .ensures) at (c .before .if1 .left) in
-    rw (by-found (g .found) x y) (c .unlinked .ensures ∙ sym (shut-to (needsNoLink (g .c) (g .command)) (isFound (g .found)) x y e))))
+    rw (by-found (g .found) x y) (c .unlinked .ensures ∙ sym (shuts (needsNoLink (g .c) (g .command)) (isFound (g .found)) x y e))))

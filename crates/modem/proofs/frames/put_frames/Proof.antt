@@ -7,7 +7,7 @@ use native.Mathlib.Omega.{arith}
 use lib.ListN.{length, take, drop, take-append-drop, length-drop}
 use borrow.Rule.Slice.PartMut.{midOf}
 use Rattle.basis.specs.Laid.{laid}
-use Rattle.basis.proofs.Laid.{rest, turn}
+use Rattle.basis.proofs.Laid.{lent, turn}
 use Rattle.modem.specs.Frames.{frameOf, framed}
 use Rattle.modem.proofs.Framed.{none, twice, inside, onward, split, size, longer}
 use Rattle.modem.proofs.frames.put_frames.Statement.{statement}
@@ -79,7 +79,7 @@ put-frames-spec =
     omega (arith, inside (g .args .reply .now) (t .at) _ (omega arith) (c .before .message-size .ensures)))
     (λ c κs. let t = c .before .before .before .before .before .loop in
     let g = c .before .before .before .before .before .before .before .before in
-    omega (arith, g .pre, twice (g .args .reply .now), size (g .args .reply .now) (t .at) _ (omega arith) (c .before .before .message-size .ensures), longer (g .args .reply .now) (t .at) _ (omega arith) (c .before .before .message-size .ensures), ap length (rest (t .to) (t .out)) ∙ length-drop (t .to) (t .out)))
+    omega (arith, g .pre, twice (g .args .reply .now), size (g .args .reply .now) (t .at) _ (omega arith) (c .before .before .message-size .ensures), longer (g .args .reply .now) (t .at) _ (omega arith) (c .before .before .message-size .ensures), lent (t .to) (t .out)))
     (λ c. let t = c .before .before .before .before .before .before .before .before .loop in
     let g = c .before .before .before .before .before .before .before .before .before .before .before in
     omega (arith, inside (g .args .reply .now) (t .at) _ (omega arith) (c .before .before .before .before .before .message-size .ensures)))

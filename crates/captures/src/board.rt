@@ -9,8 +9,15 @@ ghost use Rattle.io.specs.Counts.{Counts};
 // What the room holds before a message.
 pub(crate) const BLANK: u8 = 0xee;
 
+// A module, byte by byte.
+pub(crate) type Image = [u8; 15];
+
+// A fresh module, but for the first seven bytes, which say who it is: level and flags 00, ramp 1F, on level FF, LED 3F,
+// house and unit 20, delta 00.
+const FRESH: Image = *b"\0\0\0\0\0\0\0\x00\x00\x1f\xff\x3f\x20\x20\x00";
+
 pub(crate) struct State {
-    pub module: [u8; 15],
+    pub module: Image,
     pub links: [u8; 2056],
     pub size: usize,
 }
@@ -18,6 +25,8 @@ pub(crate) struct State {
 pub(crate) struct Board {
     pub start: State,
     pub now: State,
+    // the module before the last message
+    pub before: Image,
     pub room: [u8; 5897],
     pub room_size: usize,
     pub result: u64,
@@ -31,13 +40,14 @@ pub(crate) struct Board {
 
 pub(crate) fn blank() -> Board {
     let state = State {
-        module: [0; 15],
+        module: FRESH,
         links: [0; 2056],
         size: 0,
     };
     Board {
         start: state,
         now: state,
+        before: FRESH,
         room: [BLANK; 5897],
         room_size: 5897,
         result: 0,
@@ -51,9 +61,9 @@ pub(crate) fn blank() -> Board {
 }
 
 impl Board {
-    pub(crate) fn with_module(mut self, line: &[u8]) -> Board {
-        let mut module = [0; 15];
-        bytes_to(line, &mut module);
+    pub(crate) fn identified(mut self, line: &[u8]) -> Board {
+        let mut module = FRESH;
+        bytes_to(line, &mut module[0..7]);
         let mut now = self.now;
         now.module = module;
         self.now = now;
@@ -126,11 +136,12 @@ pub(crate) fn hear(board: Board, line: &[u8]) -> Board {
     stepped(board, module, links, &message[..n])
 }
 
-fn stepped(board: Board, module: [u8; 15], links: [u8; 2056], message: &[u8]) -> Board {
+fn stepped(board: Board, module: Image, links: [u8; 2056], message: &[u8]) -> Board {
     let mut next = board;
     let mut now = board.now;
     let size = now.size;
     let k = board.room_size;
+    let before = module;
     let mut module = module;
     let mut links = links;
     let mut room = [BLANK; 5897];
@@ -151,6 +162,7 @@ fn stepped(board: Board, module: [u8; 15], links: [u8; 2056], message: &[u8]) ->
     now.module = module;
     now.links = links;
     next.now = now;
+    next.before = before;
     next.room = room;
     next.report = report;
     next

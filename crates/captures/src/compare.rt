@@ -12,7 +12,6 @@ pub(crate) fn told(board: Board, line: &[u8]) -> Board {
         return board;
     }
     let report = board.report;
-    let now = board.now;
     match line[0] {
         b'n' => numbered(board, line, board.result),
         b's' => numbered(board, line, report[1]),
@@ -20,15 +19,12 @@ pub(crate) fn told(board: Board, line: &[u8]) -> Board {
             let room = board.room;
             in_room(board, line, room, report[0])
         }
-        b't' => {
-            let module = now.module;
-            held(board, line, &module)
-        }
         b'd' => {
+            let now = board.now;
             let links = now.links;
             in_links(board, line, links)
         }
-        _ => lost(board, line),
+        _ => unread(board, line),
     }
 }
 
@@ -116,15 +112,19 @@ fn show(bytes: &[u8]) {
 
 fn show_byte(byte: u8) {
     io::write_all(STDOUT_FILENO, b" ");
+    show_digits(byte);
+}
+
+pub(crate) fn show_digits(byte: u8) {
     io::print_hex(STDOUT_FILENO, byte as u64, 2);
 }
 
-fn matched(mut board: Board) -> Board {
+pub(crate) fn matched(mut board: Board) -> Board {
     board.compared = std::num::wrapping_add_u64(board.compared, 1);
     board
 }
 
-fn differed(mut board: Board, line: &[u8]) -> Board {
+pub(crate) fn differed(mut board: Board, line: &[u8]) -> Board {
     let title = board.title;
     show_title(title, board.title_size);
     let n = bare_size(line);
@@ -133,6 +133,13 @@ fn differed(mut board: Board, line: &[u8]) -> Board {
     board.compared = std::num::wrapping_add_u64(board.compared, 1);
     board.differ = std::num::wrapping_add_u64(board.differ, 1);
     board
+}
+
+// A line with a word or a byte that cannot be read.
+pub(crate) fn unread(board: Board, line: &[u8]) -> Board {
+    let next = differed(board, line);
+    io::write_all(STDOUT_FILENO, b" | not understood\n");
+    next
 }
 
 // Nothing that could be compared came out.

@@ -1,20 +1,27 @@
 // Examples of the paper and captures of source document 003, run through the code and compared byte by byte.
 // Standard input has them as text: a word and what belongs to it on each line, `+` where a line goes on.
-//   module, links    set the module's fifteen bytes and the link memory; fill makes the memory so many bytes long
+//   identity         begins a fresh module: address, category, subcategory, firmware, revision
+//   with             gives it values by name, `with level 7F delta 03`; what is not named stays
+//   links            sets the link memory; fill makes it so many bytes long
 //   keep             makes this the state that every case begins with
 //   case             begins a case; room sets its reply room, 5,897 bytes otherwise
 //   hear             is a message to the module
-//   number, searched, answer, then, database
-//                    are the result, the records read, the reply, the module and the link memory after it; `..` is any byte
+//   number, searched, answer, database
+//                    are the result, the records read, the reply and the link memory after it; `..` is any byte
+//   then             is the module after it: what is named, `then level 80`, and all else as it was before the message
+// The names are level, flags, ramp, on-level, led, house, unit and delta.
 mod board;
 mod compare;
 mod text;
+mod values;
 
 use board::Board;
 use board::blank;
 use board::hear;
 use compare::told;
 use text::line_end;
+use values::expected;
+use values::given;
 
 fn main() {
     let mut text = [0; 131072];
@@ -49,13 +56,15 @@ fn take(board: Board, line: &[u8]) -> Board {
     }
     match line[0] {
         b'#' | b'\n' => board,
-        b'm' => board.with_module(line),
+        b'i' => board.identified(line),
+        b'w' => given(board, line),
         b'l' => board.with_links(line),
         b'f' => board.filled(line),
         b'k' => board.kept(),
         b'c' => board.started(line),
         b'r' => board.with_room(line),
         b'h' => hear(board, line),
+        b't' => expected(board, line),
         _ => told(board, line),
     }
 }

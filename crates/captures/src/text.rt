@@ -32,6 +32,36 @@ fn is_break(text: &[u8], end: usize) -> bool
     (text[end - 1] == b'\n') & (text[end] != b'+')
 }
 
+// Where the next word begins: behind the first space from `at` on.
+pub(crate) fn next_word(line: &[u8], at: usize) -> usize
+    requires { ⌜ at ≤ length (now line) ⌝ }
+    ensures { λ r. ⌜ at ≤ r ⌝ }
+    ensures { λ r. ⌜ r ≤ length (now (line .entry)) ⌝ }
+{
+    let mut i = at;
+    while i < line.len() {
+        if line[i] == b' ' {
+            return i + 1;
+        }
+        i += 1;
+    }
+    i
+}
+
+pub(crate) fn is_equal(a: &[u8], b: &[u8]) -> bool {
+    if a.len() != b.len() {
+        return false;
+    }
+    let mut i: usize = 0;
+    while i < a.len() {
+        if a[i] != b[i] {
+            return false;
+        }
+        i += 1;
+    }
+    true
+}
+
 // How long a line is without its end.
 pub(crate) fn bare_size(line: &[u8]) -> usize
     ensures { λ r. ⌜ Counts r (now (line .entry)) ⌝ }
@@ -95,6 +125,14 @@ fn put_pair(bytes: &mut [u16], n: usize, a: u8, b: u8) -> usize
     }
     bytes[n] = byte;
     n + 1
+}
+
+// The byte that a word is, with the space or the line's end behind it; above 255 where it is none.
+pub(crate) fn byte_of(word: &[u8]) -> u16 {
+    match word.len() {
+        2..=3 => pair(word[0], word[1]),
+        _ => NONE,
+    }
 }
 
 fn pair(a: u8, b: u8) -> u16 {

@@ -1,0 +1,31 @@
+use Prim.Native.Nat.{_-_, _≤_}
+use native.Mathlib.Omega.{arith}
+use lib.ListN.{length}
+use Rattle.captures.proofs.values.place_of.Statement.{statement}
+use Rattle.captures.proofs.values.place_of.Tie as tie
+
+abbrev Inv-loop : tie.InvT-loop
+Inv-loop name names place₀ at₀ place at = (place ≤ at) × (at ≤ length names)
+
+abbrev μ-loop : tie.MeasureT-loop
+μ-loop name names place₀ at₀ place at = length names - at
+
+pub place-of-spec : {M : Type 1} → statement M
+place-of-spec =
+    tie.close
+    (tie.spec
+    Inv-loop
+    μ-loop
+    (λ c. omega arith)
+    (λ c. omega arith)
+    (λ c. omega arith)
+    (λ c κs. omega arith)
+    (λ c. omega arith)
+    (λ c. omega arith)
+    (λ c. omega arith)
+    (λ c κs. tt)
+    (λ c. omega arith)
+    (λ c. omega arith)
+    (λ c. omega arith)
+    (λ c. tt)
+    (λ c. tt))

@@ -1,0 +1,117 @@
+// The values of a module by name, as a line gives or expects them.
+use crate::board::Board;
+use crate::board::Image;
+use crate::compare::differed;
+use crate::compare::matched;
+use crate::compare::show_digits;
+use crate::compare::unread;
+use crate::text::byte_of;
+use crate::text::is_equal;
+use crate::text::next_word;
+use libc::STDOUT_FILENO;
+
+// The names of an image's bytes, in their order; those of the identity too, so that a change there would be shown.
+const NAMES: [u8; 102] =
+    *b"high middle low category subcategory firmware revision level flags ramp on-level led house unit delta ";
+
+// Before a message: the values that a line names, and the others as they are.
+pub(crate) fn given(board: Board, line: &[u8]) -> Board {
+    let mut next = board;
+    let mut now = board.now;
+    let mut module = now.module;
+    if !set_values(&mut module, line) {
+        return unread(board, line);
+    }
+    now.module = module;
+    next.now = now;
+    next
+}
+
+// Behind a message: the values that a line names, and the others as they were before it.
+pub(crate) fn expected(board: Board, line: &[u8]) -> Board {
+    let now = board.now;
+    let came = now.module;
+    let before = board.before;
+    let mut wanted = before;
+    if !set_values(&mut wanted, line) {
+        return unread(board, line);
+    }
+    if is_equal(&came, &wanted) {
+        return matched(board);
+    }
+    let next = differed(board, line);
+    io::write_all(STDOUT_FILENO, b" | came");
+    show_changes(&before, &came);
+    io::write_all(STDOUT_FILENO, b"\n");
+    next
+}
+
+// Behind its first word a line has names and bytes by turns; false where it has anything else.
+fn set_values(image: &mut [u8], line: &[u8]) -> bool {
+    let mut at = next_word(line, 0);
+    while at < line.len() {
+        // a name has a letter at least, so that each turn gets on
+        let value = next_word(line, at + 1);
+        let end = next_word(line, value);
+        if !set_value(image, &line[at..value], &line[value..end]) {
+            return false;
+        }
+        at = end;
+    }
+    true
+}
+
+fn set_value(image: &mut [u8], name: &[u8], value: &[u8]) -> bool {
+    let place = place_of(name);
+    if place >= image.len() {
+        return false;
+    }
+    let byte = byte_of(value);
+    if byte > 255 {
+        return false;
+    }
+    image[place] = byte as u8;
+    true
+}
+
+// Where the value of a name stands in an image; behind its end where there is none.
+fn place_of(name: &[u8]) -> usize {
+    let names = NAMES;
+    let mut place: usize = 0;
+    let mut at: usize = 0;
+    while at < names.len() {
+        let end = next_word(&names, at + 1);
+        if is_equal(&names[at..end], name) {
+            break;
+        }
+        at = end;
+        place += 1;
+    }
+    place
+}
+
+// What is not as it was, in the form of a `then` line.
+fn show_changes(before: &Image, came: &Image) {
+    let names = NAMES;
+    let mut place: usize = 0;
+    let mut at: usize = 0;
+    while at < names.len() {
+        let end = next_word(&names, at + 1);
+        show_change(&names[at..end], before, came, place);
+        at = end;
+        place += 1;
+    }
+}
+
+fn show_change(name: &[u8], before: &Image, came: &Image, place: usize) {
+    if place >= came.len() {
+        return;
+    }
+    let byte = came[place];
+    if byte == before[place] {
+        return;
+    }
+    io::write_all(STDOUT_FILENO, b" ");
+    io::write_all(STDOUT_FILENO, name);
+    show_digits(byte);
+}

@@ -10,11 +10,11 @@ use lib.Seq.{length-take-le, take-at, drop-at, paste-suc, take-all, take-append-
 use borrow.Author.Tests.{le-ltb}
 use borrow.Rule.Slice.PartMut.{putMid, midOf}
 use Rattle.basis.specs.Choice.{choose}
-use Rattle.basis.specs.Laid.{laid, laidIn}
+use Rattle.basis.specs.Laid.{laid, laidIfFits}
 
 -- where they fit they are laid
-pub fits : (room bytes : List ℕ) → length bytes ≤ length room → laidIn room bytes ≡ laid bytes room
-unfolding laidIn choose
+pub fits : (room bytes : List ℕ) → length bytes ≤ length room → laidIfFits room bytes ≡ laid bytes room
+unfolding laidIfFits choose
 fits room bytes h = rw (le-ltb (length room) (length bytes) h)
 
 -- one byte more is copied
@@ -35,20 +35,20 @@ back a xs ys =
     ∙ ap (λ (z : List ℕ). take a xs ++ z) (append-nil ys)
 
 -- a part from a on, with bytes laid at its start
-pub inner : (a : ℕ) (xs ys bytes : List ℕ) → length bytes ≤ length xs - a → ys ≡ laidIn (midOf a (length xs - a) xs) bytes → putMid a (length xs - a) xs ys ≡ take a xs ++ laid bytes (drop a xs)
+pub inner : (a : ℕ) (xs ys bytes : List ℕ) → length bytes ≤ length xs - a → ys ≡ laidIfFits (midOf a (length xs - a) xs) bytes → putMid a (length xs - a) xs ys ≡ take a xs ++ laid bytes (drop a xs)
 inner a xs ys bytes h q =
     back a xs ys
-    ∙ ap (λ (z : List ℕ). take a xs ++ z) (q ∙ ap (λ (z : List ℕ). laidIn z bytes) (rest a xs) ∙ fits (drop a xs) bytes (simp length-drop h))
+    ∙ ap (λ (z : List ℕ). take a xs ++ z) (q ∙ ap (λ (z : List ℕ). laidIfFits z bytes) (rest a xs) ∙ fits (drop a xs) bytes (simp length-drop h))
 
 -- bytes laid directly behind bytes
-pub behind : (room xs ys first more : List ℕ) → length first + length more ≤ length room → xs ≡ laidIn room first → ys ≡ laidIn (midOf (length first) (length xs - length first) xs) more → putMid (length first) (length xs - length first) xs ys ≡ laid (first ++ more) room
+pub behind : (room xs ys first more : List ℕ) → length first + length more ≤ length room → xs ≡ laidIfFits room first → ys ≡ laidIfFits (midOf (length first) (length xs - length first) xs) more → putMid (length first) (length xs - length first) xs ys ≡ laid (first ++ more) room
 behind room xs ys first more h p q =
     let e : xs ≡ laid first room = p ∙ fits room first (omega arith) in
     let n : length xs ≡ length first + (length room - length first) = ap length e ∙ simp (length-append, length-drop) in
     inner (length first) xs ys more (omega arith) q ∙ rw (e, take-append-seam first, drop-append-seam first, drop-drop, length-append, append-assoc)
 
 -- a turn of a loop that lays one message behind another: with what is left to lay it gives the whole
-pub turn : (a : ℕ) (xs ys m later : List ℕ) → a + length m ≤ length xs → ys ≡ laidIn (midOf a (length xs - a) xs) m
+pub turn : (a : ℕ) (xs ys m later : List ℕ) → a + length m ≤ length xs → ys ≡ laidIfFits (midOf a (length xs - a) xs) m
     → take (a + length m) (putMid a (length xs - a) xs ys) ++ laid later (drop (a + length m) (putMid a (length xs - a) xs ys)) ≡ take a xs ++ laid (m ++ later) (drop a xs)
 turn a xs ys m later h q =
     let p : List ℕ = take a xs ++ m in

@@ -10,5 +10,5 @@ abbrev pub laid : List ℕ → List ℕ → List ℕ
 laid bytes room = bytes ++ drop (length bytes) room
 
 -- nothing where they do not fit
-unfoldable pub laidIn : List ℕ → List ℕ → List ℕ
-laidIn room bytes = choose (ltb (length room) (length bytes)) room (laid bytes room)
+unfoldable pub laidIfFits : List ℕ → List ℕ → List ℕ
+laidIfFits room bytes = choose (ltb (length room) (length bytes)) room (laid bytes room)

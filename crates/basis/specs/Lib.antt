@@ -3,5 +3,6 @@ pub mod Choice
 pub mod Table
 pub mod First
 pub mod Numbers
+pub mod Spell
 pub mod Laid
 pub mod Flags

@@ -2,7 +2,7 @@
 use crate::text::bare_size;
 use crate::text::bytes_in;
 use crate::text::number_in;
-use basis::least;
+use basis::min;
 use embed::call::dreelish_step;
 ghost use Rattle.io.specs.Counts.{Counts};
 
@@ -180,7 +180,7 @@ fn bytes_to(line: &[u8], to: &mut [u8]) -> usize
 fn copy(bytes: &[u16], to: &mut [u8]) -> usize
     ensures { λ r. ⌜ Counts r (now (to .exit)) ⌝ }
 {
-    let n = least(bytes.len(), to.len());
+    let n = min(bytes.len(), to.len());
     let mut i: usize = 0;
     while i < n {
         to[i] = low(bytes[i]);

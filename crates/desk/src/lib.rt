@@ -4,11 +4,11 @@ mod line;
 mod listen;
 mod put;
 
-use dimmer::state::Identity;
-use dimmer::state::Module;
 use input::load;
 use listen::Desk;
 use listen::listen;
+use module::state::Identity;
+use module::state::Module;
 use wire::address::Address;
 
 // What is written for each frame.
@@ -56,7 +56,7 @@ fn fresh() -> Desk {
         revision: 0x00,
     };
     Desk {
-        module: Module::fresh(identity),
+        module: Module::fresh_dimmer(identity),
         tally: [0; 9],
     }
 }

@@ -15,11 +15,12 @@ pub(crate) fn put_line(line: &mut [u8], frame: &[u8], a: Answer, reply: &[u8]) -
 {
     let outcome = a.outcome;
     let next = a.next;
+    let lamp = next.load;
     let mut at = put_result(line, 0, number(outcome));
     at = put_asked(line, at, frame);
     at = put(line, at, b" | reply");
     at = put_bytes(line, at, reply);
-    put_state(line, at, a.read as u64, next.level)
+    put_state(line, at, a.read as u64, lamp.level)
 }
 
 fn put_state(line: &mut [u8], at: usize, read: u64, level: u8) -> usize

@@ -7,15 +7,16 @@ use native.Mathlib.Omega.{arith}
 use lib.Dec.{ltb}
 use lib.ListN.{length}
 use Rattle.basis.specs.Choice.{choose}
-use Rattle.basis.specs.Laid.{laidIn}
+use Rattle.basis.specs.Laid.{laidIfFits}
 use Rattle.reply.specs.declared.send.Sent.{Sent}
 use Rattle.reply.specs.Reply.{replyOf}
-use Rattle.reply.specs.Sending.{answerOf, Sending}
+use Rattle.reply.specs.Sending.{sentOf, Sending}
 use Rattle.results.specs.declared.Outcome.{Outcome}
-use Rattle.dimmer.specs.declared.state.Module.{Module}
-use Rattle.device.specs.declared.rule.Ruling.{Ruling}
-use Rattle.device.specs.Ruling.{heardBy, rulingOf}
-use Rattle.device.specs.Step.{linksAfter, Promise}
+use Rattle.module.specs.declared.state.Module.{Module}
+use Rattle.module.specs.Change.{apply}
+use Rattle.decide.specs.declared.rule.Ruling.{Ruling}
+use Rattle.decide.specs.Ruling.{heardBy, rulingOf}
+use Rattle.device.specs.Step.{linksAfter, StepPromise}
 
 apart : {A : Type 0} (n : ℕ) → Sent.Short ≡ Sent.Whole n → A
 apart n p = absurd (let z : _≡_ {A = ℕ} 0 1 = cc in omega arith)
@@ -29,21 +30,25 @@ module _ (m : Module) (l s room : List ℕ) (r : Ruling) (e : r ≡ rulingOf m l
   due = replyOf (m .identity .address) l (r .plan .due)
 
   -- too short a room: nothing has happened
-  pub short : (after : List ℕ) → Sending (m .identity .address) l (r .plan .due) room Sent.Short after → Promise m l s room (record { outcome = Outcome.NoRoom; length = 0; read = r .read; next = m }) l after
-  unfolding answerOf laidIn choose
+  pub short : (after : List ℕ) → Sending due room Sent.Short after → StepPromise m l s room (record { outcome = Outcome.NoRoom; length = 0; read = r .read; next = m }) l after
+  unfolding sentOf laidIfFits choose
   short after p = go (ltb (length room) (length due)) refl
     where
-      go : (t : Bool) → ltb (length room) (length due) ≡ t → Promise m l s room (record { outcome = Outcome.NoRoom; length = 0; read = r .read; next = m }) l after
+      go : (t : Bool) → ltb (length room) (length due) ≡ t → StepPromise m l s room (record { outcome = Outcome.NoRoom; length = 0; read = r .read; next = m }) l after
       go true q = record { outcome = rw (← e, q); sent = rw (← e, q); read = rw (← e, q); next = rw (← e, q); memory = rw (← e, q); room-after = rw (← e, q) (rw q at (p .leaves)) }
       go false q = apart (length due) (rw q at (p .answers))
 
   -- room enough: all has happened that was decided
-  pub whole : (n : ℕ) (links after : List ℕ) → links ≡ linksAfter l (heardBy m s .«data») (r .plan .write) → Sending (m .identity .address) l (r .plan .due) room (Sent.Whole n) after → Promise m l s room (record { outcome = r .plan .outcome; length = n; read = r .read; next = r .plan .next }) links after
-  unfolding answerOf laidIn choose
-  whole n links after w p = go (ltb (length room) (length due)) refl
+  pub whole : (n : ℕ) (next : Module) (links after : List ℕ)
+      → next ≡ apply (r .plan .change) m
+      → links ≡ linksAfter l (heardBy m s .«data») (r .plan .change)
+      → Sending due room (Sent.Whole n) after
+      → StepPromise m l s room (record { outcome = r .plan .outcome; length = n; read = r .read; next = next }) links after
+  unfolding sentOf laidIfFits choose
+  whole n next links after x w p = go (ltb (length room) (length due)) refl
     where
-      go : (t : Bool) → ltb (length room) (length due) ≡ t → Promise m l s room (record { outcome = r .plan .outcome; length = n; read = r .read; next = r .plan .next }) links after
+      go : (t : Bool) → ltb (length room) (length due) ≡ t → StepPromise m l s room (record { outcome = r .plan .outcome; length = n; read = r .read; next = next }) links after
       go true q = apart n (sym (rw q at (p .answers)))
       go false q =
           let long : n ≡ length due = whole-is n (length due) (rw q at (p .answers)) in
-          record { outcome = rw (← e, q); sent = rw (← e, q) long; read = rw (← e, q); next = rw (← e, q); memory = rw (← e, q) w; room-after = rw (← e, q) (rw q at (p .leaves)) }
+          record { outcome = rw (← e, q); sent = rw (← e, q) long; read = rw (← e, q); next = rw (← e, q) x; memory = rw (← e, q) w; room-after = rw (← e, q) (rw q at (p .leaves)) }

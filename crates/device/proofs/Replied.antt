@@ -9,8 +9,8 @@ use lib.Seq.{take-append-seam}
 use borrow.Author.Tests.{ltb-false}
 use Rattle.basis.proofs.Choice.{by}
 use Rattle.reply.specs.Reply.{replyOf}
-use Rattle.dimmer.specs.declared.state.Module.{Module}
-use Rattle.device.specs.Ruling.{rulingOf}
+use Rattle.module.specs.declared.state.Module.{Module}
+use Rattle.decide.specs.Ruling.{rulingOf}
 use Rattle.device.specs.Step.{Step, stepOf}
 
 pub record Replied (room : List ℕ) (t : Step) : Type 0 where

@@ -1,7 +1,7 @@
 -- Message after message: each finds the module and the link memory that the one before it left.
 use Prim.Native.Nat.{ℕ}
 use mathlib.Core.List.{List, [], _∷_}
-use Rattle.dimmer.specs.declared.state.Module.{Module}
+use Rattle.module.specs.declared.state.Module.{Module}
 use Rattle.device.specs.Step.{Step, stepOf}
 
 -- a message with its reply room

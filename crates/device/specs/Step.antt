@@ -6,14 +6,15 @@ use lib.Dec.{ltb}
 use lib.ListN.{length, take, drop}
 use Rattle.basis.specs.Choice.{choose}
 use Rattle.basis.specs.Laid.{laid}
-use Rattle.links.specs.Write.{writtenIn}
+use Rattle.links.specs.Write.{writtenIfThere}
 use Rattle.reply.specs.Reply.{replyOf}
 use Rattle.results.specs.declared.Outcome.{Outcome}
-use Rattle.dimmer.specs.declared.state.Module.{Module}
-use Rattle.dimmer.specs.declared.plan.Write.{Write}
-use Rattle.device.specs.declared.rule.Ruling.{Ruling}
+use Rattle.module.specs.declared.state.Module.{Module}
+use Rattle.module.specs.declared.change.Change.{Change}
+use Rattle.module.specs.Change.{apply}
+use Rattle.decide.specs.declared.rule.Ruling.{Ruling}
 use Rattle.device.specs.declared.step.Answer.{Answer}
-use Rattle.device.specs.Ruling.{heardBy, rulingOf}
+use Rattle.decide.specs.Ruling.{heardBy, rulingOf}
 
 -- all that comes out of a call
 pub record Step : Type 0 where
@@ -24,29 +25,41 @@ pub record Step : Type 0 where
   pub links : List ℕ
   pub room : List ℕ
 
--- link memory after a write: its bytes are those from Data 6 on
-abbrev pub linksAfter : List ℕ → List ℕ → Write → List ℕ
-linksAfter l d Write.Nothing = l
-linksAfter l d (Write.Record k n) = writtenIn l k (take n (drop 5 d))
+-- link memory after a change: the bytes of a write are those from Data 6 on
+abbrev pub linksAfter : List ℕ → List ℕ → Change → List ℕ
+linksAfter l d Change.Nothing = l
+linksAfter l d (Change.Flags x) = l
+linksAfter l d (Change.Led x) = l
+linksAfter l d (Change.X10 house unit) = l
+linksAfter l d (Change.Load x) = l
+linksAfter l d (Change.Record k n) = writtenIfThere l k (take n (drop 5 d))
 
 -- result 5: nothing is sent and nothing altered; the count of the search is kept
 abbrev pub shortOf : Module → List ℕ → List ℕ → Ruling → Step
 shortOf m l room r = record { outcome = Outcome.NoRoom; reply = []; read = r .read; next = m; links = l; room = room }
 
 -- the reply goes to the start of the room, and the bytes behind it stay
-abbrev pub sentOf : List ℕ → List ℕ → List ℕ → List ℕ → Ruling → Step
-sentOf reply l d room r = record { outcome = r .plan .outcome; reply = reply; read = r .read; next = r .plan .next; links = linksAfter l d (r .plan .write); room = laid reply room }
+abbrev pub servedOf : Module → List ℕ → List ℕ → List ℕ → List ℕ → Ruling → Step
+servedOf m l d room reply r =
+    record {
+      outcome = r .plan .outcome;
+      reply = reply;
+      read = r .read;
+      next = apply (r .plan .change) m;
+      links = linksAfter l d (r .plan .change);
+      room = laid reply room;
+    }
 
 abbrev pub finishOf : Module → List ℕ → List ℕ → List ℕ → Ruling → Step
 finishOf m l d room r =
     let reply : List ℕ = replyOf (m .identity .address) l (r .plan .due) in
-    choose (ltb (length room) (length reply)) (shortOf m l room r) (sentOf reply l d room r)
+    choose (ltb (length room) (length reply)) (shortOf m l room r) (servedOf m l d room reply r)
 
 abbrev pub stepOf : Module → List ℕ → List ℕ → List ℕ → Step
 stepOf m l s room = finishOf m l (heardBy m s .«data») room (rulingOf m l s)
 
 -- what a call promises: its answer, the link memory and the room afterwards
-pub record Promise (m : Module) (l s room : List ℕ) (answer : Answer) (links after : List ℕ) : Type 0 where
+pub record StepPromise (m : Module) (l s room : List ℕ) (answer : Answer) (links after : List ℕ) : Type 0 where
   pub outcome : answer .outcome ≡ stepOf m l s room .outcome
   pub sent : answer .length ≡ length (stepOf m l s room .reply)
   pub read : answer .read ≡ stepOf m l s room .read

@@ -1,3 +1,2 @@
 // The one call: a message, a link memory and a reply room, and what comes of them ("Result numbers").
-pub mod rule; // what is decided of a message, in the paper's order
 pub mod step; // decided, measured, and only then written

@@ -1,15 +1,15 @@
 // One message to one module. Nothing is written before the whole reply is known to fit.
-use crate::rule::Ruling;
-use crate::rule::rule;
-use dimmer::plan::Write;
-use dimmer::state::Module;
+use decide::rule::rule;
 use links::write::write;
+use module::change::Change;
+use module::state::Module;
 use reply::send::Sent;
 use reply::send::send;
 use results::Outcome;
 use wire::read::read;
 ghost use mathlib.Core.Path.{_≡_};
-ghost use Rattle.device.specs.Step.{linksAfter, Promise};
+ghost use Rattle.module.specs.Change.{apply};
+ghost use Rattle.device.specs.Step.{linksAfter, StepPromise};
 
 // What a call answers: the reply's length and the module afterwards beside the outcome and the records read.
 pub struct Answer {
@@ -20,7 +20,7 @@ pub struct Answer {
 }
 
 pub fn step(m: Module, links: &mut [u8], message: &[u8], room: &mut [u8]) -> Answer
-    ensures { λ r. ⌜ Promise m (now (links .entry)) (now (message .entry)) (now (room .entry)) r (now (links .exit)) (now (room .exit)) ⌝ }
+    ensures { λ r. ⌜ StepPromise m (now (links .entry)) (now (message .entry)) (now (room .entry)) r (now (links .exit)) (now (room .exit)) ⌝ }
 {
     let identity = m.identity;
     let own = identity.address;
@@ -37,10 +37,9 @@ pub fn step(m: Module, links: &mut [u8], message: &[u8], room: &mut [u8]) -> Ans
             next: m,
         },
         Sent::Whole(n) => {
-            let w = plan.write;
-            commit(links, data, w);
+            let change = plan.change;
+            let next = commit(m, links, data, change);
             let outcome = plan.outcome;
-            let next = plan.next;
             Answer {
                 outcome: outcome,
                 length: n,
@@ -51,13 +50,26 @@ pub fn step(m: Module, links: &mut [u8], message: &[u8], room: &mut [u8]) -> Ans
     }
 }
 
-// The bytes of a write are those from Data 6 on.
-fn commit(links: &mut [u8], data: [u8; 14], w: Write)
-    ensures { λ _. ⌜ now (links .exit) ≡ linksAfter (now (links .entry)) «data» w ⌝ }
+// The one place that alters module and link memory.
+fn commit(m: Module, links: &mut [u8], data: [u8; 14], change: Change) -> Module
+    ensures { λ r. ⌜ r ≡ apply change m ⌝ }
+    ensures { λ _. ⌜ now (links .exit) ≡ linksAfter (now (links .entry)) «data» change ⌝ }
 {
-    match w {
-        Write::Nothing => {}
-        Write::Record(k, n) => {
+    write_change(links, data, change);
+    m.apply(change)
+}
+
+// The bytes of a write are those from Data 6 on.
+fn write_change(links: &mut [u8], data: [u8; 14], change: Change)
+    ensures { λ _. ⌜ now (links .exit) ≡ linksAfter (now (links .entry)) «data» change ⌝ }
+{
+    match change {
+        Change::Nothing => {}
+        Change::Flags(_) => {}
+        Change::Led(_) => {}
+        Change::X10(_, _) => {}
+        Change::Load(_) => {}
+        Change::Record(k, n) => {
             if n <= 8 {
                 let end = 5 + n;
                 write(links, k, &data[5..end]);

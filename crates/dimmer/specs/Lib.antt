@@ -1,7 +1,6 @@
--- The dimmer, in the order of the paper.
-pub mod Module
-pub mod Plan
-pub mod Standard
-pub mod Extended
+-- A dimmer's own rows, in the order of the paper.
+pub mod Lamp
+pub mod Load
+pub mod Properties
+pub mod Table
 pub mod Groups
-pub mod Decide

@@ -1,17 +1,17 @@
 // Levels, and per cent of them ("Direct commands, standard").
 ghost use mathlib.Core.Path.{_≡_};
 ghost use Prim.Native.Nat.{_≤_};
-ghost use Rattle.dimmer.specs.Standard.{raised, lowered, highThenF, percentOf, levelOf};
+ghost use Rattle.dimmer.specs.Load.{raised, lowered, highThenF, percentOf, levelOf};
 
 // Eight more, at most FF.
-pub(crate) fn raise(level: u8) -> u8
+pub(crate) fn raised(level: u8) -> u8
     ensures { λ r. ⌜ r ≡ raised level ⌝ }
 {
     if level <= 247 { level + 8 } else { 255 }
 }
 
 // Eight less, at least 00.
-pub(crate) fn lower(level: u8) -> u8
+pub(crate) fn lowered(level: u8) -> u8
     ensures { λ r. ⌜ r ≡ lowered level ⌝ }
 {
     if 8 <= level { level - 8 } else { 0 }

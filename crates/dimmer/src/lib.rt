@@ -1,9 +1,6 @@
-// The dimmer module: its values, and what each message does to it, decided by value ("The module we simulate").
-pub mod decide; // whom a message makes it look for, and what comes of what was found
-mod extended; // direct commands, extended
-mod flags; // the flag rule
-mod groups; // broadcasts and cleanups
+// The dimmer: what its own commands and its groups do to its lamp, decided by value ("Direct commands", "Groups").
+pub mod groups; // what a group's record does
 mod levels; // levels and per cent
-pub mod plan; // what is decided, before anything is written
-mod standard; // direct commands, standard
-pub mod state; // the module, its identity and its start
+mod load; // commands to the lamp
+mod properties; // extended 2E
+pub mod table; // the rows that are its own

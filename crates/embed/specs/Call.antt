@@ -12,7 +12,7 @@ use Rattle.device.specs.Step.{Step, stepOf}
 use Rattle.embed.specs.Image.{moduleOf, imageOf}
 
 -- all that comes out of a call
-pub record Call : Type 0 where
+pub record Returned : Type 0 where
   pub number : ℕ
   pub image : List ℕ
   pub links : List ℕ
@@ -24,18 +24,24 @@ abbrev pub placed : List ℕ → List ℕ → Bool
 placed image report = eqb (length image) 15 && leb 2 (length report)
 
 -- the report begins with the reply's length and the records read
-abbrev pub servedOf : List ℕ → Step → Call
-servedOf report t =
-    record { number = numberOf (t .outcome); image = imageOf (t .next); links = t .links; room = t .room; report = laid (length (t .reply) ∷ t .read ∷ []) report }
+abbrev pub reported : List ℕ → Step → Returned
+reported report t =
+    record {
+      number = numberOf (t .outcome);
+      image = imageOf (t .next);
+      links = t .links;
+      room = t .room;
+      report = laid (length (t .reply) ∷ t .read ∷ []) report;
+    }
 
-unfoldable pub callOf : List ℕ → List ℕ → List ℕ → List ℕ → List ℕ → Call
-callOf image links message room report =
-    choose (placed image report) (servedOf report (stepOf (moduleOf image) links message room))
+unfoldable pub returnedOf : List ℕ → List ℕ → List ℕ → List ℕ → List ℕ → Returned
+returnedOf image links message room report =
+    choose (placed image report) (reported report (stepOf (moduleOf image) links message room))
     (record { number = 255; image = image; links = links; room = room; report = report })
 
-pub record Promise (image links message room report : List ℕ) (r : ℕ) (image' links' room' report' : List ℕ) : Type 0 where
-  pub number : r ≡ callOf image links message room report .number
-  pub image-after : image' ≡ callOf image links message room report .image
-  pub links-after : links' ≡ callOf image links message room report .links
-  pub room-after : room' ≡ callOf image links message room report .room
-  pub report-after : report' ≡ callOf image links message room report .report
+pub record CallPromise (image links message room report : List ℕ) (r : ℕ) (image' links' room' report' : List ℕ) : Type 0 where
+  pub number : r ≡ returnedOf image links message room report .number
+  pub image-after : image' ≡ returnedOf image links message room report .image
+  pub links-after : links' ≡ returnedOf image links message room report .links
+  pub room-after : room' ≡ returnedOf image links message room report .room
+  pub report-after : report' ≡ returnedOf image links message room report .report

@@ -2,17 +2,20 @@
 use Prim.Native.Nat.{ℕ}
 use mathlib.Core.List.{List, [], _∷_}
 use lib.ListN.{getD}
-use Rattle.dimmer.specs.declared.state.Identity.{Identity}
-use Rattle.dimmer.specs.declared.state.Module.{Module}
+use Rattle.wire.specs.Bytes.{addressAt}
+use Rattle.module.specs.declared.state.Identity.{Identity}
+use Rattle.module.specs.declared.state.Module.{Module}
 
 abbrev pub moduleOf : List ℕ → Module
 moduleOf s =
     record {
-      identity = record { address = record { high = getD s 0 0; middle = getD s 1 0; low = getD s 2 0 }; category = getD s 3 0; subcategory = getD s 4 0; firmware = getD s 5 0; revision = getD s 6 0 };
-      level = getD s 7 0;
+      identity = record { address = addressAt s 0; category = getD s 3 0; subcategory = getD s 4 0; firmware = getD s 5 0; revision = getD s 6 0 };
       flags = getD s 8 0;
-      properties = record { ramp = getD s 9 0; «on_level» = getD s 10 0; led = getD s 11 0; house = getD s 12 0; unit = getD s 13 0 };
+      led = getD s 11 0;
+      house = getD s 12 0;
+      unit = getD s 13 0;
       delta = getD s 14 0;
+      load = record { level = getD s 7 0; ramp = getD s 9 0; «on_level» = getD s 10 0 };
     }
 
 -- the values of m, for a module of this identity
@@ -20,9 +23,8 @@ abbrev pub imageBy : Identity → Module → List ℕ
 imageBy i m =
     i .address .high ∷ i .address .middle ∷ i .address .low ∷
     i .category ∷ i .subcategory ∷ i .firmware ∷ i .revision ∷
-    m .level ∷ m .flags ∷
-    m .properties .ramp ∷ m .properties .«on_level» ∷ m .properties .led ∷ m .properties .house ∷ m .properties .unit ∷
-    m .delta ∷ []
+    m .load .level ∷ m .flags ∷ m .load .ramp ∷ m .load .«on_level» ∷
+    m .led ∷ m .house ∷ m .unit ∷ m .delta ∷ []
 
 abbrev pub imageOf : Module → List ℕ
 imageOf m = imageBy (m .identity) m

@@ -3,7 +3,7 @@ use crate::image::module_of;
 use crate::image::store;
 use device::step::step;
 use results::number;
-ghost use Rattle.embed.specs.Call.{Promise};
+ghost use Rattle.embed.specs.Call.{CallPromise};
 
 // The number of an image or a report that does not fit.
 const UNFIT: u64 = 255;
@@ -16,7 +16,10 @@ pub extern "C" fn dreelish_step(
     room: &mut [u8],
     report: &mut [u64],
 ) -> u64
-    ensures { λ r. ⌜ Promise (now (image .entry)) (now (links .entry)) (now (message .entry)) (now (room .entry)) (now (report .entry)) r (now (image .exit)) (now (links .exit)) (now (room .exit)) (now (report .exit)) ⌝ }
+    ensures { λ r. ⌜
+        CallPromise (now (image .entry)) (now (links .entry)) (now (message .entry)) (now (room .entry)) (now (report .entry))
+        r (now (image .exit)) (now (links .exit)) (now (room .exit)) (now (report .exit))
+        ⌝ }
 {
     if image.len() != 15 {
         return UNFIT;

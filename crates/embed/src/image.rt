@@ -1,7 +1,7 @@
 // A module as fifteen bytes, so that a caller of another language can hold it ("The module we simulate").
-use dimmer::state::Identity;
-use dimmer::state::Module;
-use reply::due::Properties;
+use module::state::Identity;
+use module::state::Lamp;
+use module::state::Module;
 use wire::address::Address;
 ghost use mathlib.Core.Path.{_≡_};
 ghost use lib.ListN.{length};
@@ -13,10 +13,12 @@ pub(crate) fn module_of(image: &[u8]) -> Module
 {
     Module {
         identity: identity_of(image),
-        level: image[7],
         flags: image[8],
-        properties: properties_of(image),
+        led: image[11],
+        house: image[12],
+        unit: image[13],
         delta: image[14],
+        load: lamp_of(image),
     }
 }
 
@@ -37,16 +39,14 @@ fn identity_of(image: &[u8]) -> Identity
     }
 }
 
-fn properties_of(image: &[u8]) -> Properties
+fn lamp_of(image: &[u8]) -> Lamp
     requires { ⌜ length (now image) ≡ 15 ⌝ }
-    ensures { λ r. ⌜ r ≡ moduleOf (now (image .entry)) .properties ⌝ }
+    ensures { λ r. ⌜ r ≡ moduleOf (now (image .entry)) .load ⌝ }
 {
-    Properties {
-        house: image[12],
-        unit: image[13],
+    Lamp {
+        level: image[7],
         ramp: image[9],
         on_level: image[10],
-        led: image[11],
     }
 }
 
@@ -55,13 +55,13 @@ pub(crate) fn store(image: &mut [u8], m: Module)
     requires { ⌜ length (now image) ≡ 15 ⌝ }
     ensures { λ _. ⌜ now (image .exit) ≡ imageBy (moduleOf (now (image .entry)) .identity) m ⌝ }
 {
-    let p = m.properties;
-    image[7] = m.level;
+    let lamp = m.load;
+    image[7] = lamp.level;
     image[8] = m.flags;
-    image[9] = p.ramp;
-    image[10] = p.on_level;
-    image[11] = p.led;
-    image[12] = p.house;
-    image[13] = p.unit;
+    image[9] = lamp.ramp;
+    image[10] = lamp.on_level;
+    image[11] = m.led;
+    image[12] = m.house;
+    image[13] = m.unit;
     image[14] = m.delta;
 }

@@ -4,8 +4,8 @@ use mathlib.Core.Path.{_≡_}
 use mathlib.Core.List.{List}
 use borrow.Author.Tests.{lt-ltb}
 use Rattle.basis.specs.Choice.{choose}
-use Rattle.links.specs.Record.{records, recordAt, recordIn}
+use Rattle.links.specs.Record.{records, recordAt, recordOrBlank}
 
-pub taken : (l : List ℕ) (k : ℕ) → k < records l → recordIn l k ≡ recordAt l k
+pub taken : (l : List ℕ) (k : ℕ) → k < records l → recordOrBlank l k ≡ recordAt l k
 unfolding choose
 taken l k h = rw (lt-ltb k (records l) h)

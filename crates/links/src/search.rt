@@ -1,14 +1,14 @@
 // The search for a record, which ends at the first record that settles it ("Link memory").
 use crate::memory::Link;
-use crate::memory::is_end;
-use crate::memory::is_of;
+use crate::memory::bears;
+use crate::memory::is_end_mark;
+use crate::memory::is_in_use;
 use crate::memory::is_responder;
-use crate::memory::is_used;
 use crate::memory::link_of;
 use crate::memory::record_at;
 use wire::address::Address;
 ghost use mathlib.Core.Path.{_≡_};
-ghost use Rattle.links.specs.Search.{answers, matches, sought, stopOf, stoppedAt, searchOf, isFound, readBy};
+ghost use Rattle.links.specs.Search.{answers, matches, isSought, walkOf, searchOf, isFound};
 
 // Whose record a search looks for.
 pub enum Wanted {
@@ -20,27 +20,36 @@ pub enum Wanted {
     Responder(Address, u8),
 }
 
-// What settled a search, with the number of records read: it stands first in each case, so that all of them have it at one place.
+// What settled a search.
 pub enum Found {
-    Unsought,
-    Match(usize, Link),
-    End(usize),
-    Memory(usize),
+    NoSearch,
+    Match(Link),
+    EndMark,
+    MemoryEnd,
 }
 
-pub fn search(links: &[u8], wanted: Wanted) -> Found
+// That, and the number of records read.
+pub struct Searched {
+    pub read: usize,
+    pub found: Found,
+}
+
+pub fn search(links: &[u8], wanted: Wanted) -> Searched
     ensures { λ r. ⌜ r ≡ searchOf (now (links .entry)) wanted ⌝ }
 {
     // The walk is called at one place only, so that a compiler can keep what it looks for, and what it finds, in registers.
     if is_sought(wanted) {
         return walk(links, wanted);
     }
-    Found::Unsought
+    Searched {
+        read: 0,
+        found: Found::NoSearch,
+    }
 }
 
 // A search is made.
 fn is_sought(wanted: Wanted) -> bool
-    ensures { λ r. ⌜ r ≡ sought wanted ⌝ }
+    ensures { λ r. ⌜ r ≡ isSought wanted ⌝ }
 {
     match wanted {
         Wanted::Nobody => false,
@@ -50,40 +59,50 @@ fn is_sought(wanted: Wanted) -> bool
 }
 
 // From record to record, each read once.
-fn walk(links: &[u8], wanted: Wanted) -> Found
-    ensures { λ r. ⌜ r ≡ stoppedAt (now (links .entry)) (stopOf (now (links .entry)) wanted) ⌝ }
+fn walk(links: &[u8], wanted: Wanted) -> Searched
+    ensures { λ r. ⌜ r ≡ walkOf (now (links .entry)) wanted ⌝ }
 {
     let n = links.len() / 8;
     let mut i: usize = 0;
     loop {
         if i == n {
-            break Found::Memory(n);
+            break Searched {
+                read: n,
+                found: Found::MemoryEnd,
+            };
         }
         let record = record_at(links, i);
-        if is_end(record) {
-            break Found::End(i + 1);
+        if is_end_mark(record) {
+            break Searched {
+                read: i + 1,
+                found: Found::EndMark,
+            };
         }
-        if is_match(record, wanted) {
-            break Found::Match(i + 1, link_of(record));
+        if matches(record, wanted) {
+            let link = link_of(record);
+            break Searched {
+                read: i + 1,
+                found: Found::Match(link),
+            };
         }
         i += 1;
     }
 }
 
 // A record in use that is looked for; that no end mark stands before it is the walk's to see.
-fn is_match(record: [u8; 8], wanted: Wanted) -> bool
+fn matches(record: [u8; 8], wanted: Wanted) -> bool
     ensures { λ r. ⌜ r ≡ matches wanted «record» ⌝ }
 {
-    is_used(record) & is_wanted(record, wanted)
+    is_in_use(record) & answers(record, wanted)
 }
 
-fn is_wanted(record: [u8; 8], wanted: Wanted) -> bool
+fn answers(record: [u8; 8], wanted: Wanted) -> bool
     ensures { λ r. ⌜ r ≡ answers wanted «record» ⌝ }
 {
     match wanted {
         Wanted::Nobody => false,
-        Wanted::Sender(a) => is_of(record, a),
-        Wanted::Responder(a, g) => is_of(record, a) & is_responder(record) & (record[1] == g),
+        Wanted::Sender(a) => bears(record, a),
+        Wanted::Responder(a, g) => bears(record, a) & is_responder(record) & (record[1] == g),
     }
 }
 
@@ -92,21 +111,9 @@ pub fn is_found(found: Found) -> bool
     ensures { λ r. ⌜ r ≡ isFound found ⌝ }
 {
     match found {
-        Found::Unsought => false,
-        Found::Match(_, _) => true,
-        Found::End(_) => false,
-        Found::Memory(_) => false,
-    }
-}
-
-// How many records the search read.
-pub fn read_by(found: Found) -> usize
-    ensures { λ r. ⌜ r ≡ readBy found ⌝ }
-{
-    match found {
-        Found::Unsought => 0,
-        Found::Match(n, _) => n,
-        Found::End(n) => n,
-        Found::Memory(n) => n,
+        Found::NoSearch => false,
+        Found::Match(_) => true,
+        Found::EndMark => false,
+        Found::MemoryEnd => false,
     }
 }

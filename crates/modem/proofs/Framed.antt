@@ -9,12 +9,12 @@ use borrow.Rule.Slice.PartMut.{midOf}
 use Rattle.basis.specs.Choice.{choose}
 use Rattle.basis.proofs.Choice.{either}
 use Rattle.basis.proofs.Laid.{rest}
-use Rattle.wire.specs.Bytes.{extended}
+use Rattle.wire.specs.Bytes.{isExtended}
 use Rattle.modem.specs.Frames.{frameOf, messageSize, framedBy, framed}
 
 -- a message is nine bytes at least, unless fewer are left
-nine : (s : List ℕ) → 9 ≤ choose (extended s) 23 9
-nine s = either (λ n. 9 ≤ n) (extended s) (omega arith) (omega arith)
+nine : (s : List ℕ) → 9 ≤ choose (isExtended s) 23 9
+nine s = either (λ n. 9 ≤ n) (isExtended s) (omega arith) (omega arith)
 
 pub within : (s : List ℕ) → messageSize s ≤ length s
 within s = omega arith

@@ -14,7 +14,7 @@ use Rattle.basis.specs.First.{firstFrom}
 use Rattle.basis.proofs.First.{Told, told, unique, skipped, shifted}
 use Rattle.basis.proofs.Tests.{clash, same}
 use Rattle.modem.specs.declared.arrived.Seen.{Seen}
-use Rattle.modem.specs.Arrived.{stopsAt, placeOf, sizeAt, seenAt, seekOf}
+use Rattle.modem.specs.Arrived.{stopsAt, frameStart, sizeAt, seenAt, seekOf}
 use Rattle.modem.proofs.Placed.{inside, whole, cut, found, waits}
 
 -- what is seen, k places further on
@@ -41,8 +41,8 @@ last s t j e p = go (eqb (getD s j 0) 0x02) refl
     go false q = rw (List·getD-append s t 0 j (omega arith), q)
 
 -- no place before the first one stops
-quiet : (s : List ℕ) (j : ℕ) → j < placeOf s → stopsAt s j ≡ false
-unfolding placeOf
+quiet : (s : List ℕ) (j : ℕ) → j < frameStart s → stopsAt s j ≡ false
+unfolding frameStart
 quiet s j h = go (firstFrom (stopsAt s) (length s) 0) (told (stopsAt s) (length s) 0) h
   where
     go : (k : ℕ) → Told (stopsAt s) (length s) 0 k → j < k → stopsAt s j ≡ false
@@ -50,15 +50,15 @@ quiet s j h = go (firstFrom (stopsAt s) (length s) 0) (told (stopsAt s) (length 
     go k (Told.nowhere w) h = w .never j (omega arith) (omega (arith, w .behind))
 
 -- the first one does, where it is one
-stops : (s : List ℕ) → placeOf s < length s → stopsAt s (placeOf s) ≡ true
-unfolding placeOf
+stops : (s : List ℕ) → frameStart s < length s → stopsAt s (frameStart s) ≡ true
+unfolding frameStart
 stops s h = go (firstFrom (stopsAt s) (length s) 0) (told (stopsAt s) (length s) 0) h
   where
     go : (k : ℕ) → Told (stopsAt s) (length s) 0 k → k < length s → stopsAt s k ≡ true
     go k (Told.at a) h = a .holds
     go k (Told.nowhere w) h = absurd (omega (arith, w .behind))
 
-still : (s t : List ℕ) (j : ℕ) → j < placeOf s → stopsAt (s ++ t) j ≡ false
+still : (s t : List ℕ) (j : ℕ) → j < frameStart s → stopsAt (s ++ t) j ≡ false
 still s t j h = go (eqb (j + 1) (length s)) refl
   where
     go : (b : Bool) → eqb (j + 1) (length s) ≡ b → stopsAt (s ++ t) j ≡ false
@@ -67,15 +67,15 @@ still s t j h = go (eqb (j + 1) (length s)) refl
 
 -- a frame that was found stays found
 pub stays : (s t : List ℕ) (k n : ℕ) → Seen.Whole k n ≡ seekOf s → Seen.Whole k n ≡ seekOf (s ++ t)
-unfolding placeOf
+unfolding frameStart
 stays s t k n e =
     let f = found s k n e in
     let l : length (s ++ t) ≡ length s + length t = length-append s t in
-    let there : stopsAt (s ++ t) (placeOf s) ≡ true = keeps s t (placeOf s) (omega (arith, f .place, f .lies, f .least)) ∙ stops s (omega (arith, f .place, f .lies, f .least)) in
-    let p : placeOf (s ++ t) ≡ placeOf s = unique (stopsAt (s ++ t)) (length (s ++ t)) 0 (placeOf s) (record { from = omega arith; inside = omega (arith, f .place, f .lies, f .least); holds = there; before = λ j a b. still s t j b }) in
-    let z : sizeAt (s ++ t) (placeOf s) ≡ sizeAt s (placeOf s) = rw (List·getD-append s t 0 (placeOf s + 1) (omega (arith, f .place, f .lies, f .least))) in
+    let there : stopsAt (s ++ t) (frameStart s) ≡ true = keeps s t (frameStart s) (omega (arith, f .place, f .lies, f .least)) ∙ stops s (omega (arith, f .place, f .lies, f .least)) in
+    let p : frameStart (s ++ t) ≡ frameStart s = unique (stopsAt (s ++ t)) (length (s ++ t)) 0 (frameStart s) (record { from = omega arith; inside = omega (arith, f .place, f .lies, f .least); holds = there; before = λ j a b. still s t j b }) in
+    let z : sizeAt (s ++ t) (frameStart s) ≡ sizeAt s (frameStart s) = rw (List·getD-append s t 0 (frameStart s + 1) (omega (arith, f .place, f .lies, f .least))) in
     (λ i. Seen.Whole (f .place i) ((f .size ∙ sym z) i))
-    ∙ sym (rw p (whole (s ++ t) (placeOf s) (omega (arith, f .place, f .size, f .lies))))
+    ∙ sym (rw p (whole (s ++ t) (frameStart s) (omega (arith, f .place, f .size, f .lies))))
 
 -- the tests at k + j are those at j of what stands from k on
 further : (k : ℕ) (x : List ℕ) → k ≤ length x → (j : ℕ) → stopsAt x (k + j) ≡ stopsAt (drop k x) j
@@ -87,7 +87,7 @@ further k x h j =
 
 -- what is skipped once need not be looked at again: the bytes before a wait can be dropped
 pub waits-on : (s t : List ℕ) (k : ℕ) → Seen.Waiting k ≡ seekOf s → seekOf (s ++ t) ≡ moved k (seekOf (drop k (s ++ t)))
-unfolding placeOf choose
+unfolding frameStart choose
 waits-on s t k e =
     let w = waits s k e in
     let x : List ℕ = s ++ t in
@@ -95,14 +95,14 @@ waits-on s t k e =
     let l : length x ≡ length s + length t = length-append s t in
     let n : length y ≡ length x - k = length-drop k x in
     let m : length x ≡ k + length y = omega (arith, w .lies) in
-    let p : placeOf x ≡ k + placeOf y =
+    let p : frameStart x ≡ k + frameStart y =
     ap (λ (i : ℕ). firstFrom (stopsAt x) i 0) m
     ∙ skipped (stopsAt x) k (length y) 0 (λ j a b. still s t j (omega (arith, w .place)))
     ∙ ap (λ (i : ℕ). firstFrom (stopsAt x) (length y) i) (zero-add k ∙ sym (add-zero k))
     ∙ shifted (stopsAt x) (stopsAt y) k (further k x (omega (arith, w .lies))) (length y) 0 in
-    let q : k + (placeOf y + 1) ≡ k + placeOf y + 1 = omega arith in
-    let z : sizeAt x (k + placeOf y) ≡ sizeAt y (placeOf y) = rw (getD-drop k x (placeOf y + 1) 0, q) in
-    rw p (seen k x y (placeOf y) z m)
+    let q : k + (frameStart y + 1) ≡ k + frameStart y + 1 = omega arith in
+    let z : sizeAt x (k + frameStart y) ≡ sizeAt y (frameStart y) = rw (getD-drop k x (frameStart y + 1) 0, q) in
+    rw p (seen k x y (frameStart y) z m)
   where
     seen : (k : ℕ) (x y : List ℕ) (i : ℕ) → sizeAt x (k + i) ≡ sizeAt y i → length x ≡ k + length y → seenAt x (k + i) ≡ moved k (seenAt y i)
     seen k x y i z m = go (leb (i + sizeAt y i) (length y)) refl

@@ -10,14 +10,13 @@ use borrow.Rule.Slice.PartMut.{midOf}
 use Rattle.basis.specs.Choice.{choose}
 use Rattle.basis.specs.Laid.{laid}
 use Rattle.basis.proofs.Laid.{rest}
-use Rattle.dimmer.specs.declared.state.Module.{Module}
+use Rattle.module.specs.declared.state.Module.{Module}
 use Rattle.device.specs.declared.step.Answer.{Answer}
-use Rattle.device.specs.Step as step
-use Rattle.device.specs.Step.{Step, stepOf}
+use Rattle.device.specs.Step.{Step, stepOf, StepPromise}
 use Rattle.device.proofs.Replied.{replied}
 use Rattle.modem.specs.declared.serve.Served.{Served}
 use Rattle.modem.specs.Frames.{framed}
-use Rattle.modem.specs.Serve.{Turn, answerOf, doneOf, ample, turnOf, Promise}
+use Rattle.modem.specs.Serve.{Turn, answerOf, doneOf, ample, turnOf, ServePromise}
 
 -- the message behind the first two bytes; none where there are no more
 pub message : (s : List ℕ) → midOf (min (length s) 2) (length s - min (length s) 2) s ≡ drop 2 s
@@ -29,7 +28,7 @@ message s = rest (min (length s) 2) s ∙ go s
     go (x ∷ y ∷ s) = let e : min (length (x ∷ y ∷ s)) 2 ≡ 2 = omega arith in rw e
 
 -- what a step leaves in the room is its reply
-module _ (m : Module) (l s room : List ℕ) (answer : Answer) (links after : List ℕ) (p : step.Promise m l s room answer links after) where
+module _ (m : Module) (l s room : List ℕ) (answer : Answer) (links after : List ℕ) (p : StepPromise m l s room answer links after) where
   pub taken : take (answer .length) after ≡ stepOf m l s room .reply
   taken = (λ i. take (p .sent i) (p .room-after i)) ∙ replied m l s room .start
 
@@ -49,7 +48,7 @@ module _ (m : Module) (l frame room out : List ℕ) where
   -- the promise is kept by what the turn is
   kept : (x : Turn) → turnOf m l frame room out ≡ x → {r : Served} {links room' out' : List ℕ}
       → r ≡ x .served → links ≡ x .links → room' ≡ x .room → out' ≡ x .out
-      → Promise m l frame room out r links room' out'
+      → ServePromise m l frame room out r links room' out'
   kept x e s n o p =
       record {
         served = s ∙ sym (ap (λ (t : Turn). t .served) e);
@@ -58,15 +57,15 @@ module _ (m : Module) (l frame room out : List ℕ) where
         out-after = p ∙ sym (ap (λ (t : Turn). t .out) e);
       }
 
-  pub cramped : length out ≤ 2 * length room → Promise m l frame room out Served.Cramped l room out
+  pub cramped : length out ≤ 2 * length room → ServePromise m l frame room out Served.Cramped l room out
   unfolding turnOf choose
   cramped h = kept (record { served = Served.Cramped; links = l; room = room; out = out }) (rw (le-ltb (2 * length room) (length out) h)) refl refl refl refl
 
   pub done : 2 * length room < length out → (answer : Answer) (links room' out' : List ℕ) (n : ℕ)
-      → step.Promise m l (drop 2 frame) room answer links room'
+      → StepPromise m l (drop 2 frame) room answer links room'
       → n ≡ length (framed (take (answer .length) room'))
       → out' ≡ laid (framed (take (answer .length) room')) out
-      → Promise m l frame room out (Served.Done answer n) links room' out'
+      → ServePromise m l frame room out (Served.Done answer n) links room' out'
   unfolding turnOf choose
   done h answer links room' out' n p q o =
       let t : Step = stepOf m l (drop 2 frame) room in
@@ -85,7 +84,7 @@ module _ (a : Answer) (n : ℕ) where
 
 -- its frames stand in `out`, and its reply in the room
 pub lies : (m : Module) (l frame room out : List ℕ) (a : Answer) (n : ℕ) (links room' out' : List ℕ)
-    → Promise m l frame room out (Served.Done a n) links room' out'
+    → ServePromise m l frame room out (Served.Done a n) links room' out'
     → (n ≤ length out') × (a .length ≤ length room')
 unfolding turnOf choose
 lies m l frame room out a n links room' out' p = go (ample room out) refl

@@ -20,8 +20,8 @@ abbrev pub stopsAt : List ℕ → ℕ → Bool
 stopsAt s k = mayStartAt s k || startsAt s k
 
 -- the bytes before it are skipped, each alone; all are where none starts a frame
-unfoldable pub placeOf : List ℕ → ℕ
-placeOf s = first (stopsAt s) (length s)
+unfoldable pub frameStart : List ℕ → ℕ
+frameStart s = first (stopsAt s) (length s)
 
 -- two bytes, and a standard or an extended message
 abbrev pub sizeAt : List ℕ → ℕ → ℕ
@@ -32,4 +32,4 @@ abbrev pub seenAt : List ℕ → ℕ → Seen
 seenAt s k = choose (leb (k + sizeAt s k) (length s)) (Seen.Whole k (sizeAt s k)) (Seen.Waiting k)
 
 abbrev pub seekOf : List ℕ → Seen
-seekOf s = seenAt s (placeOf s)
+seekOf s = seenAt s (frameStart s)

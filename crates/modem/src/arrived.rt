@@ -3,7 +3,7 @@ ghost use mathlib.Core.Path.{_≡_};
 ghost use Prim.Native.Nat.{_≤_, _<_};
 ghost use lib.ListN.{length, drop};
 ghost use Rattle.basis.specs.Laid.{laid};
-ghost use Rattle.modem.specs.Arrived.{stopsAt, placeOf, sizeAt, seekOf};
+ghost use Rattle.modem.specs.Arrived.{stopsAt, frameStart, sizeAt, seekOf};
 
 // Where a whole frame stands and how long it is; or where the bytes begin that are to be kept until more arrive.
 pub enum Seen {
@@ -14,7 +14,7 @@ pub enum Seen {
 pub fn seek(s: &[u8]) -> Seen
     ensures { λ r. ⌜ r ≡ seekOf (now (s .entry)) ⌝ }
 {
-    let k = place(s);
+    let k = frame_start(s);
     let n = size_at(s, k);
     if n <= s.len() - k {
         return Seen::Whole(k, n);
@@ -23,8 +23,8 @@ pub fn seek(s: &[u8]) -> Seen
 }
 
 // Every byte before it starts no frame.
-fn place(s: &[u8]) -> usize
-    ensures { λ r. ⌜ r ≡ placeOf (now (s .entry)) ⌝ }
+fn frame_start(s: &[u8]) -> usize
+    ensures { λ r. ⌜ r ≡ frameStart (now (s .entry)) ⌝ }
 {
     let mut k: usize = 0;
     while k < s.len() {

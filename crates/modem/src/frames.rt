@@ -1,11 +1,11 @@
 // Replies as frames: 02 50 before each standard message and 02 51 before each extended one ("The program").
-use basis::least;
+use basis::min;
 use wire::read::is_extended;
 ghost use mathlib.Core.Path.{_≡_};
 ghost use Prim.Native.Nat.{_+_, _*_, _≤_, _<_};
 ghost use lib.ListN.{length};
-ghost use Rattle.basis.specs.Laid.{laid, laidIn};
-ghost use Rattle.modem.specs.Frames.{sortOf, frameOf, messageSize, framed};
+ghost use Rattle.basis.specs.Laid.{laid, laidIfFits};
+ghost use Rattle.modem.specs.Frames.{markerOf, frameOf, messageSize, framed};
 
 // The reply's messages in frames, one directly after the other; how many bytes they are.
 pub(crate) fn put_frames(out: &mut [u8], reply: &[u8]) -> usize
@@ -31,15 +31,15 @@ fn message_size(reply: &[u8]) -> usize
 {
     let n = reply.len();
     if is_extended(reply) {
-        least(n, 23)
+        min(n, 23)
     } else {
-        least(n, 9)
+        min(n, 9)
     }
 }
 
 // What follows 02.
-fn sort_of(message: &[u8]) -> u8
-    ensures { λ r. ⌜ r ≡ sortOf (now (message .entry)) ⌝ }
+fn marker_of(message: &[u8]) -> u8
+    ensures { λ r. ⌜ r ≡ markerOf (now (message .entry)) ⌝ }
 {
     if is_extended(message) { 0x51 } else { 0x50 }
 }
@@ -47,9 +47,9 @@ fn sort_of(message: &[u8]) -> u8
 // One message in its frame.
 fn put_frame(out: &mut [u8], message: &[u8])
     requires { ⌜ 2 + length (now message) ≤ length (now out) ⌝ }
-    ensures { λ _. ⌜ now (out .exit) ≡ laidIn (now (out .entry)) (frameOf (now (message .entry))) ⌝ }
+    ensures { λ _. ⌜ now (out .exit) ≡ laidIfFits (now (out .entry)) (frameOf (now (message .entry))) ⌝ }
 {
-    let sort = sort_of(message);
-    basis::lay(out, &[0x02, sort]);
+    let marker = marker_of(message);
+    basis::lay(out, &[0x02, marker]);
     basis::lay(&mut out[2..], message);
 }

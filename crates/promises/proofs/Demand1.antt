@@ -9,121 +9,103 @@ use borrow.Author.Tests.{eqb-true}
 use Rattle.basis.specs.Choice.{choose}
 use Rattle.basis.specs.Numbers.{within}
 use Rattle.basis.proofs.Choice.{either, by}
-use Rattle.wire.specs.declared.address.Address.{Address}
-use Rattle.wire.specs.declared.command.Codes.{Codes}
-use Rattle.wire.specs.declared.command.Command.{Command}
-use Rattle.wire.specs.declared.command.Turn.{Turn}
-use Rattle.wire.specs.declared.kind.Kind.{Kind}
+use Rattle.wire.specs.declared.request.Request.{Request}
+use Rattle.wire.specs.declared.command.GroupCommand.{GroupCommand}
+use Rattle.wire.specs.declared.kind.MessageKind.{MessageKind}
 use Rattle.wire.specs.declared.kind.Message.{Message}
-use Rattle.wire.specs.Bytes.{fromOf, toOf, codesOf, dataOf, whole}
-use Rattle.wire.specs.Commands.{turnOf}
-use Rattle.wire.specs.Kinds.{typeOf, direct, cleanup, foreign, kindOf}
-use Rattle.wire.specs.Checksum.{sumWrong}
+use Rattle.wire.specs.Bytes.{fromOf, toOf, command1Of, requestOf, dataOf, isWhole}
+use Rattle.wire.specs.Commands.{groupCommandOf}
+use Rattle.wire.specs.Kinds.{typeOf, isDirect, isCleanup, isForeign, kindOf}
+use Rattle.wire.specs.Checksum.{isSumWrong}
 use Rattle.wire.specs.Reading.{readOf}
+use Rattle.links.specs.declared.memory.Link.{Link}
 use Rattle.links.specs.declared.search.Found.{Found}
-use Rattle.links.specs.Record.{fit}
+use Rattle.links.specs.Record.{isFit, records}
 use Rattle.links.specs.Search.{searchOf, ifFound}
-use Rattle.reply.specs.declared.due.Sort.{Sort}
+use Rattle.reply.specs.declared.due.ReplyType.{ReplyType}
 use Rattle.reply.specs.declared.due.Due.{Due}
 use Rattle.reply.specs.Reply.{replyOf}
 use Rattle.results.specs.declared.Outcome.{Outcome}
 use Rattle.results.specs.Number.{numberOf}
-use Rattle.dimmer.specs.declared.state.Module.{Module}
-use Rattle.dimmer.specs.declared.plan.Plan.{Plan}
-use Rattle.dimmer.specs.Plan
-use Rattle.dimmer.specs.Plan.{unlinked, unlisted}
-use Rattle.dimmer.proofs.Shape.{Shape, acked, refused, shaped}
-use Rattle.dimmer.specs.Groups.{broadcastPlan, cleanupPlan}
-use Rattle.dimmer.specs.Decide.{wantedOf, commandPlan, directPlan}
-use Rattle.device.specs.declared.rule.Ruling.{Ruling}
-use Rattle.device.specs.Ruling.{heardBy, kindRuling, readRuling, rulingBy, rulingOf}
-use Rattle.device.specs.Step.{stepOf, sentOf}
+use Rattle.module.specs.declared.state.Module.{Module}
+use Rattle.module.specs.declared.deed.Deed.{Deed}
+use Rattle.module.specs.declared.deed.GroupDeed.{GroupDeed}
+use Rattle.module.specs.declared.plan.Plan.{Plan}
+use Rattle.module.specs.Plan.{refused, unlinked, unlisted, deedPlan}
+use Rattle.decide.specs.declared.rule.Ruling.{Ruling}
+use Rattle.decide.specs.Dispatch.{deedOf, groupDeedOf}
+use Rattle.decide.specs.Groups.{broadcastBy, cleanupBy}
+use Rattle.decide.specs.Decide.{wantedOf, directPlan}
+use Rattle.decide.specs.Ruling.{heardBy, kindRuling, readRuling, rulingBy, rulingOf}
+use Rattle.device.specs.Step.{stepOf, servedOf}
+use Rattle.promises.proofs.Ruled.{commandIn}
 use Rattle.promises.specs.Demand1.{Fate, carried-out, silent, not-linked, not-listed}
 
--- what a plan is that is not carried out, to a sender with a Command 1
-pub data Fair (m : Module) (sort : Sort) (to : Address) (one : ℕ) (p : Plan) : Type 0 where
-  done : numberOf (p .outcome) ≡ 0 → Fair m sort to one p
-  mute : (o : Outcome) → within 1 4 (numberOf o) || eqb (numberOf o) 8 ≡ true → p ≡ Plan.refused m o Due.Nothing → Fair m sort to one p
-  stranger : p ≡ unlinked m sort to one → Fair m sort to one p
-  unknown : p ≡ unlisted m sort to one → Fair m sort to one p
+-- what a plan is that is not carried out: its refusal, by the type of its NAK and the request
+pub data Fair (type : ReplyType) (r : Request) (p : Plan) : Type 0 where
+  done : numberOf (p .outcome) ≡ 0 → Fair type r p
+  mute : (o : Outcome) → within 1 4 (numberOf o) || eqb (numberOf o) 8 ≡ true → p ≡ refused o Due.Nothing → Fair type r p
+  stranger : p ≡ unlinked type r → Fair type r p
+  unknown : p ≡ unlisted type r → Fair type r p
 
-module _ (m : Module) (from : Address) (c : Codes) where
-  abbrev Direct : Plan → Type 0
-  Direct = Fair m Sort.Nak from (c .one)
+deed-fair : (m : Module) (r : Request) (deed : Deed) → Fair ReplyType.Nak r (deedPlan m r deed)
+deed-fair m r (Deed.Done change ack) = done refl
+deed-fair m r Deed.Unlisted = unknown refl
 
-  shape-fair : (p : Plan) → Shape m from (c .one) p → Direct p
-  shape-fair p (acked e a) = done e
-  shape-fair p (refused e) = unknown e
+cleanup-fair : (r : Request) (deed : GroupDeed) → Fair ReplyType.CleanupNak r (cleanupBy r deed)
+cleanup-fair r (GroupDeed.Done change) = done refl
+cleanup-fair r GroupDeed.Unlisted = unknown refl
 
-  module _ (d : List ℕ) where
-    command-fair : (n : ℕ) (command : Command) → Direct (commandPlan m from c d n command)
-    command-fair n command = shape-fair (commandPlan m from c d n command) (shaped m from c d n command)
+broadcast-fair : (type : ReplyType) (r : Request) (deed : GroupDeed) → Fair type r (broadcastBy deed)
+broadcast-fair type r (GroupDeed.Done change) = done refl
+broadcast-fair type r GroupDeed.Unlisted = mute Outcome.Unconcerned refl refl
 
-    direct-fair : (n : ℕ) (command : Command) (found : Found) → Direct (directPlan m from c d n command found)
-    unfolding directPlan
-    direct-fair n command found = either Direct _ (command-fair n command) (go found)
-      where
-        go : (found : Found) → Direct (ifFound found (λ link. commandPlan m from c d n command) (unlinked m Sort.Nak from (c .one)))
-        go Found.Unsought = stranger refl
-        go (Found.Match k link) = command-fair n command
-        go (Found.End k) = stranger refl
-        go (Found.Memory k) = stranger refl
+-- by what the search found
+found-fair : (type : ReplyType) (r : Request) (found : Found) (then : Link → Plan) (none : Plan) → ((link : Link) → Fair type r (then link)) → Fair type r none → Fair type r (ifFound found then none)
+found-fair type r Found.NoSearch then none f g = g
+found-fair type r (Found.Match link) then none f g = f link
+found-fair type r Found.EndMark then none f g = g
+found-fair type r Found.MemoryEnd then none f g = g
 
-  cleanup-fair : (turn : Turn) (found : Found) → Fair m Sort.CleanupNak from (c .one) (cleanupPlan m from c turn found)
-  cleanup-fair turn Found.Unsought = stranger refl
-  cleanup-fair Turn.On (Found.Match k link) = done refl
-  cleanup-fair Turn.Off (Found.Match k link) = done refl
-  cleanup-fair Turn.Unlisted (Found.Match k link) = unknown refl
-  cleanup-fair turn (Found.End k) = stranger refl
-  cleanup-fair turn (Found.Memory k) = stranger refl
-
-broadcast-fair : (m : Module) (sort : Sort) (to : Address) (one : ℕ) (turn : Turn) (found : Found) → Fair m sort to one (broadcastPlan m turn found)
-broadcast-fair m sort to one turn Found.Unsought = mute Outcome.Unconcerned refl refl
-broadcast-fair m sort to one Turn.On (Found.Match k link) = done refl
-broadcast-fair m sort to one Turn.Off (Found.Match k link) = done refl
-broadcast-fair m sort to one Turn.Unlisted (Found.Match k link) = mute Outcome.Unconcerned refl refl
-broadcast-fair m sort to one turn (Found.End k) = mute Outcome.Unconcerned refl refl
-broadcast-fair m sort to one turn (Found.Memory k) = mute Outcome.Unconcerned refl refl
-
--- the NAK's sort by the message's type
-module _ {m : Module} {to : Address} {one : ℕ} {p : Plan} (s : List ℕ) where
-  as-direct : cleanup s ≡ false → Fair m Sort.Nak to one p → Fair m (choose (cleanup s) Sort.CleanupNak Sort.Nak) to one p
+-- the NAK's type by the message's
+module _ {r : Request} {p : Plan} (s : List ℕ) where
+  as-direct : isCleanup s ≡ false → Fair ReplyType.Nak r p → Fair (choose (isCleanup s) ReplyType.CleanupNak ReplyType.Nak) r p
   unfolding choose
   as-direct e f = rw e f
 
-  as-cleanup : cleanup s ≡ true → Fair m Sort.CleanupNak to one p → Fair m (choose (cleanup s) Sort.CleanupNak Sort.Nak) to one p
+  as-cleanup : isCleanup s ≡ true → Fair ReplyType.CleanupNak r p → Fair (choose (isCleanup s) ReplyType.CleanupNak ReplyType.Nak) r p
   unfolding choose
   as-cleanup e f = rw e f
 
 -- every ruling is fair
 module _ (m : Module) (l s : List ℕ) where
   abbrev pub Just : Ruling → Type 0
-  Just r = Fair m (choose (cleanup s) Sort.CleanupNak Sort.Nak) (fromOf s) (codesOf s .one) (r .plan)
+  Just r = Fair (choose (isCleanup s) ReplyType.CleanupNak ReplyType.Nak) (requestOf s) (r .plan)
 
   kind-fair : (d : List ℕ) → Just (kindRuling m l d (kindOf s))
-  unfolding kindOf
+  unfolding kindOf directPlan
   kind-fair d =
-      by P (direct s)
-      (λ e. as-direct s (not-cleanup e) (direct-fair m (fromOf s) (codesOf s) d _ _ _))
-      (λ e. by P (cleanup s)
-      (λ f. as-cleanup s f (cleanup-fair m (fromOf s) (codesOf s) turn (searchOf l (wantedOf (Kind.Cleanup (fromOf s) turn (codesOf s))))))
-      (λ f. broadcast-fair m _ _ _ turn (searchOf l (wantedOf (Kind.Broadcast (fromOf s) (toOf s) turn)))))
+      by P (isDirect s)
+      (λ e. as-direct s (not-cleanup e) (either (Fair ReplyType.Nak (requestOf s)) _ (deed-fair m (requestOf s) (deedOf m (requestOf s) d (records l) (commandIn s))) (stranger refl)))
+      (λ e. by P (isCleanup s)
+      (λ f. as-cleanup s f (found-fair _ _ (searchOf l (wantedOf (MessageKind.Cleanup (requestOf s) command)) .found) _ _ (λ link. cleanup-fair (requestOf s) (groupDeedOf m command link)) (stranger refl)))
+      (λ f. found-fair _ _ (searchOf l (wantedOf (MessageKind.Broadcast (fromOf s) (toOf s) command)) .found) _ _ (λ link. broadcast-fair _ _ (groupDeedOf m command link)) (mute Outcome.Unconcerned refl refl)))
     where
-      turn : Turn
-      turn = turnOf (codesOf s .one)
+      command : GroupCommand
+      command = groupCommandOf (command1Of s)
 
-      P : Kind → Type 0
+      P : MessageKind → Type 0
       P kind = Just (kindRuling m l d kind)
 
-      not-cleanup : direct s ≡ true → cleanup s ≡ false
+      not-cleanup : isDirect s ≡ true → isCleanup s ≡ false
       not-cleanup e = rw (eqb-true (typeOf s) 0 e)
 
   read-fair : Just (readRuling m l (heardBy m s .«data») (heardBy m s .reading))
   unfolding readOf
   read-fair =
-      either Q (whole s)
-      (either Q (foreign s (m .identity .address)) (mute Outcome.Foreign refl refl)
-      (either Q (sumWrong s) (mute Outcome.BadSum refl refl) (kind-fair (dataOf s))))
+      either Q (isWhole s)
+      (either Q (isForeign s (m .identity .address)) (mute Outcome.Foreign refl refl)
+      (either Q (isSumWrong s) (mute Outcome.BadSum refl refl) (kind-fair (dataOf s))))
       (mute Outcome.BadLength refl refl)
     where
       Q : Message → Type 0
@@ -131,7 +113,7 @@ module _ (m : Module) (l s : List ℕ) where
 
   pub ruling-fair : Just (rulingOf m l s)
   unfolding rulingBy
-  ruling-fair = either Just (fit l) read-fair (mute Outcome.BadMemory refl refl)
+  ruling-fair = either Just (isFit l) read-fair (mute Outcome.BadMemory refl refl)
 
 -- 1 to 4 are among 1 to 5
 wider : (o : Outcome) → within 1 4 (numberOf o) || eqb (numberOf o) 8 ≡ true → within 1 5 (numberOf o) || eqb (numberOf o) 8 ≡ true
@@ -147,7 +129,7 @@ wider Outcome.Unconcerned q = q
 
 -- and a fair ruling has its stated fate
 module _ (m : Module) (l s room : List ℕ) where
-  sent : (r : Ruling) → Just m l s r → Fate m l s room (sentOf (replyOf (m .identity .address) l (r .plan .due)) l (heardBy m s .«data») room r)
+  sent : (r : Ruling) → Just m l s r → Fate m l s room (servedOf m l (heardBy m s .«data») room (replyOf (m .identity .address) l (r .plan .due)) r)
   sent r (done e) = carried-out e
   sent r (mute o q e) = rw e (silent (wider o q) (record { same-module = refl; same-links = refl }) (record { reply = refl; room-after = refl }))
   sent r (stranger e) = rw e (not-linked refl (record { same-module = refl; same-links = refl }) (record { reply = refl; room-after = refl }))

@@ -11,30 +11,31 @@ use borrow.Author.Tests.{le-ltb}
 use Rattle.basis.specs.Choice.{choose}
 use Rattle.basis.specs.Laid.{laid}
 use Rattle.basis.proofs.Choice.{either, beside}
-use Rattle.wire.specs.declared.address.Address.{Address}
-use Rattle.wire.specs.Bytes.{fromOf, flagsOf, codesOf, dataOf}
-use Rattle.wire.specs.Kinds.{direct}
+use Rattle.wire.specs.declared.request.Request.{Request}
+use Rattle.wire.specs.Bytes.{fromOf, flagsOf, command2Of, requestOf, dataOf}
+use Rattle.wire.specs.Kinds.{isDirect}
 use Rattle.wire.specs.Reading.{wellFormed}
-use Rattle.links.specs.Record.{fit, records}
+use Rattle.links.specs.Record.{isFit, records}
 use Rattle.links.specs.Live.{Linked}
 use Rattle.links.proofs.Linked.{linked-or-not}
-use Rattle.reply.specs.declared.due.Sort.{Sort}
-use Rattle.reply.specs.declared.due.Head.{Head}
-use Rattle.reply.specs.declared.due.Due.{Due}
-use Rattle.reply.specs.Message
+use Rattle.reply.specs.declared.due.ReplyType.{ReplyType}
 use Rattle.reply.specs.Message.{standard}
 use Rattle.reply.specs.Reply.{replyOf}
-use Rattle.dimmer.specs.declared.state.Identity.{Identity}
-use Rattle.dimmer.specs.declared.state.Module.{Module}
-use Rattle.dimmer.specs.declared.plan.Plan.{Plan}
-use Rattle.dimmer.proofs.Shape.{Shape, Acks, acked, refused, shaped}
-use Rattle.dimmer.proofs.Sender.{exempt-plan, stranger-plan}
-use Rattle.device.specs.Ruling.{heardBy, rulingOf}
+use Rattle.module.specs.declared.state.Identity.{Identity}
+use Rattle.module.specs.declared.state.Module.{Module}
+use Rattle.module.specs.declared.change.Change.{Change}
+use Rattle.module.specs.declared.deed.Ack.{Ack}
+use Rattle.module.specs.declared.deed.Deed.{Deed}
+use Rattle.module.specs.declared.plan.Plan.{Plan}
+use Rattle.module.specs.Change.{apply}
+use Rattle.module.specs.Plan.{deedPlan}
+use Rattle.decide.specs.Ruling.{heardBy, rulingOf}
+use Rattle.decide.proofs.Sender.{exempt-plan, stranger-plan}
 use Rattle.device.specs.Step.{Step, linksAfter, stepOf}
 use Rattle.device.specs.Run.{Call, State, callOf, leftBy, runOf, endOf}
 use Rattle.promises.specs.Room.{dueTo}
 use Rattle.promises.specs.Demand3.{Stranger, pingOrId, NakExactly, LearnsNothing, none, keep, strike, Strikes, AlwaysStrikes, Unmissed}
-use Rattle.promises.proofs.Ruled.{commandIn, lookedAt, ruled, ruled-linked}
+use Rattle.promises.proofs.Ruled.{commandIn, deedIn, ruled, ruled-linked}
 use Rattle.promises.proofs.Stranger.{exempt, strangerBytes, ruling-quiet, unaltered}
 
 -- bytes sent and room afterwards, by the reply that is due
@@ -56,42 +57,38 @@ module _ (m : Module) (l s room : List ℕ) where
   room-by = beside (λ (t : Step) (bytes : List ℕ). t .room ≡ bytes) _ refl refl
 
 -- a command that is looked at is never answered with FF: byte 6 of the reply is 2B, or its Command 2 is FB
-module _ (m : Module) (l : List ℕ) (from : Address) (one : ℕ) where
+module _ (m : Module) (l : List ℕ) (r : Request) where
   abbrev nak : List ℕ
-  nak = standard (m .identity .address) from Sort.Nak one 0xff
+  nak = standard (m .identity .address) (r .from) ReplyType.Nak (r .command1) 0xff
 
-  ack-or-nak : (h : Head) → h .sort ≡ Sort.Ack → Message.flagsOf (h .sort) ≡ 0xab → ⊥
-  ack-or-nak h a q = let z : _≡_ {A = ℕ} 0x2b 0xab = rw a at q in omega arith
-
-  not-acked : (due : Due) → Acks due → replyOf (m .identity .address) l due ≡ nak → ⊥
-  not-acked Due.Nothing a q = a
-  not-acked (Due.Alone h) a q = ack-or-nak h a (ap flagsOf q)
-  not-acked (Due.WithId h id revision) a q = ack-or-nak h a (ap flagsOf q)
-  not-acked (Due.WithProperties h data1 p) a q = ack-or-nak h a (ap flagsOf q)
-  not-acked (Due.WithRecords h data1 k count) a q = ack-or-nak h a (ap flagsOf q)
-
-  not-ff : (p : Plan) → Shape m from one p → replyOf (m .identity .address) l (p .due) ≡ nak → ⊥
-  not-ff p (acked e a) q = not-acked (p .due) a q
-  not-ff p (refused e) q =
-      let z : _≡_ {A = ℕ} 0xfb 0xff = ap (λ (b : List ℕ). codesOf b .two) (ap (λ (x : Plan). replyOf (m .identity .address) l (x .due)) (sym e) ∙ q) in
-      omega arith
-
-module _ (m : Module) (l s : List ℕ) (f : fit l ≡ true) (w : wellFormed s (m .identity .address) ≡ true) (d : direct s ≡ true) where
   abbrev dueOf : Plan → List ℕ
   dueOf p = replyOf (m .identity .address) l (p .due)
 
-  looked-at : rulingOf m l s .plan ≡ lookedAt m l s → dueTo m l s ≡ nak m l (fromOf s) (codesOf s .one) → ⊥
-  looked-at e q = not-ff m l (fromOf s) (codesOf s .one) (lookedAt m l s) (shaped m (fromOf s) (codesOf s) (dataOf s) (records l) (commandIn s)) (ap dueOf (sym e) ∙ q)
+  ack-or-nak : {A : Type 0} → _≡_ {A = ℕ} 0x2b 0xab → A
+  ack-or-nak q = absurd (omega arith)
 
-  only-then : dueTo m l s ≡ nak m l (fromOf s) (codesOf s .one) → (pingOrId s ≡ false) × Stranger l s
+  not-ff : (deed : Deed) → dueOf (deedPlan m r deed) ≡ nak → ⊥
+  not-ff (Deed.Done change Ack.Repeated) q = ack-or-nak (ap flagsOf q)
+  not-ff (Deed.Done change (Ack.Telling x)) q = ack-or-nak (ap flagsOf q)
+  not-ff (Deed.Done change (Ack.AfterDelta x)) q = ack-or-nak (ap flagsOf q)
+  not-ff (Deed.Done change Ack.WithId) q = ack-or-nak (ap flagsOf q)
+  not-ff (Deed.Done change (Ack.WithProperties d)) q = ack-or-nak (ap flagsOf q)
+  not-ff (Deed.Done change (Ack.WithRecords data1 k count)) q = ack-or-nak (ap flagsOf q)
+  not-ff Deed.Unlisted q = let z : _≡_ {A = ℕ} 0xfb 0xff = ap command2Of q in omega arith
+
+module _ (m : Module) (l s : List ℕ) (f : isFit l ≡ true) (w : wellFormed s (m .identity .address) ≡ true) (d : isDirect s ≡ true) where
+  looked-at : rulingOf m l s .plan ≡ deedPlan m (requestOf s) (deedIn m l s) → dueTo m l s ≡ nak m l (requestOf s) → ⊥
+  looked-at e q = not-ff m l (requestOf s) (deedIn m l s) (ap (dueOf m l (requestOf s)) (sym e) ∙ q)
+
+  only-then : dueTo m l s ≡ nak m l (requestOf s) → (pingOrId s ≡ false) × Stranger l s
   only-then q = (go (pingOrId s) refl, λ h. looked-at (ruled-linked m l s f w d h) q)
     where
       go : (t : Bool) → pingOrId s ≡ t → pingOrId s ≡ false
-      go true e = absurd (looked-at (ruled m l s f w d ∙ exempt-plan m l (fromOf s) (codesOf s) (dataOf s) (records l) (commandIn s) (exempt s ∙ e)) q)
+      go true e = absurd (looked-at (ruled m l s f w d ∙ exempt-plan m l (requestOf s) (dataOf s) (records l) (commandIn s) (exempt s ∙ e)) q)
       go false e = e
 
-  then : (pingOrId s ≡ false) × Stranger l s → dueTo m l s ≡ nak m l (fromOf s) (codesOf s .one)
-  then h = ap dueOf (ruled m l s f w d ∙ stranger-plan m l (fromOf s) (codesOf s) (dataOf s) (records l) (commandIn s) (h .1) (exempt s ∙ h .0))
+  then : (pingOrId s ≡ false) × Stranger l s → dueTo m l s ≡ nak m l (requestOf s)
+  then h = ap (dueOf m l (requestOf s)) (ruled m l s f w d ∙ stranger-plan m l (requestOf s) (dataOf s) (records l) (commandIn s) (h .1) (exempt s ∙ h .0))
 
 pub nak-exactly : NakExactly
 nak-exactly m l s room f w d enough =
@@ -108,7 +105,7 @@ still : (s : State) (c : Call) → Stranger (s .links) (c .message) → leftBy (
 still s c h =
     let u = unaltered (s .device) (s .links) (c .message) h in
     either (λ (t : Step). leftBy t ≡ s) _ refl
-    (λ i. record { device = u .0 i; links = linksAfter (s .links) (heardBy (s .device) (c .message) .«data») (u .1 i) })
+    (λ i. record { device = apply (u i) (s .device); links = linksAfter (s .links) (heardBy (s .device) (c .message) .«data») (u i) })
 
 pub always-strikes : AlwaysStrikes
 always-strikes s [] = record { kept = []; steps = []; struck = none }

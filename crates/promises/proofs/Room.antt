@@ -12,15 +12,16 @@ use Rattle.basis.specs.Numbers.{within}
 use Rattle.basis.proofs.Tests.{both, clash}
 use Rattle.basis.proofs.Choice.{by}
 use Rattle.wire.specs.declared.address.Address.{Address}
-use Rattle.links.specs.Record.{fit}
-use Rattle.reply.specs.declared.due.Sort.{Sort}
+use Rattle.wire.specs.declared.request.Request.{Request}
+use Rattle.links.specs.Record.{isFit}
+use Rattle.reply.specs.declared.due.ReplyType.{ReplyType}
 use Rattle.reply.specs.declared.due.Due.{Due}
 use Rattle.reply.specs.Reply.{replyOf}
-use Rattle.reply.proofs.Measured.{measured, enough}
+use Rattle.reply.proofs.Measured.{long, enough}
 use Rattle.results.specs.declared.Outcome.{Outcome}
 use Rattle.results.specs.Number.{numberOf}
-use Rattle.device.specs.declared.rule.Ruling.{Ruling}
-use Rattle.device.specs.Ruling.{heardBy, readRuling, rulingBy, rulingOf}
+use Rattle.decide.specs.declared.rule.Ruling.{Ruling}
+use Rattle.decide.specs.Ruling.{heardBy, readRuling, rulingBy, rulingOf}
 use Rattle.device.specs.Step.{stepOf}
 use Rattle.promises.specs.Room.{dueTo, DecidesFive, AlwaysEnough}
 use Rattle.promises.proofs.Demand1.{Fair, done, mute, stranger, unknown, ruling-fair}
@@ -41,7 +42,7 @@ pub decides-five : DecidesFive
 unfolding choose
 decides-five m l s room = (go (ltb (length room) (length (dueTo m l s))) refl, λ h. rw (lt-ltb (length room) (length (dueTo m l s)) h))
   where
-    not-planned : {sort : Sort} {to : Address} {one : ℕ} (r : Ruling) → Fair m sort to one (r .plan) → numberOf (r .plan .outcome) ≡ 5 → ⊥
+    not-planned : {type : ReplyType} {q : Request} (r : Ruling) → Fair type q (r .plan) → numberOf (r .plan .outcome) ≡ 5 → ⊥
     not-planned r (done e) f = omega arith
     not-planned r (mute o q e) f = never-five o q (rw e at f)
     not-planned r (stranger e) f = let g : _≡_ {A = ℕ} 6 5 = rw e at f in omega arith
@@ -52,19 +53,19 @@ decides-five m l s room = (go (ltb (length room) (length (dueTo m l s))) refl, �
     go false q e = absurd (not-planned (rulingOf m l s) (ruling-fair m l s) (rw q at e))
 
 -- of a fit memory no reply is longer
-longest : (own : Address) (l : List ℕ) (due : Due) → fit l ≡ true → length (replyOf own l due) ≤ 5897
+longest : (own : Address) (l : List ℕ) (due : Due) → isFit l ≡ true → length (replyOf own l due) ≤ 5897
 longest own l Due.Nothing h = omega arith
 longest own l (Due.Alone x) h = omega arith
 longest own l (Due.WithId x id revision) h = omega arith
-longest own l (Due.WithProperties x data1 p) h = omega arith
+longest own l (Due.WithProperties x d) h = omega arith
 longest own l (Due.WithRecords x data1 k count) h =
     let f = both (within 1 2048 (length l)) _ h .0 in
     let g = leb-true (length l) 2048 (both (leb 1 (length l)) (leb (length l) 2048) f .1) in
-    omega (arith, measured own l (Due.WithRecords x data1 k count), enough l k count)
+    omega (arith, long own x data1 l k count, enough l k count)
 
 pub always-enough : AlwaysEnough
 unfolding rulingBy
 always-enough m l s =
-    by (λ (r : Ruling). length (replyOf (m .identity .address) l (r .plan .due)) ≤ 5897) (fit l)
+    by (λ (r : Ruling). length (replyOf (m .identity .address) l (r .plan .due)) ≤ 5897) (isFit l)
     (λ h. longest (m .identity .address) l (readRuling m l (heardBy m s .«data») (heardBy m s .reading) .plan .due) h)
     (λ h. omega arith)

@@ -2,21 +2,23 @@
 use Prim.Native.Nat.{ℕ}
 use mathlib.Core.List.{List, [], _∷_, _++_}
 use lib.ListN.{replicate}
-use Rattle.dimmer.specs.declared.state.Module.{Module}
+use Rattle.module.specs.declared.state.Module.{Module}
+use Rattle.module.specs.Module.{freshDimmer}
+use Rattle.module.specs.Change.{withLoad}
+use Rattle.dimmer.specs.Lamp
 
--- the bench's module by its level, flags, ramp and delta; what no example alters is as in a fresh one
-unfoldable pub bench : ℕ → ℕ → ℕ → ℕ → Module
-bench level flags ramp delta =
-    record {
-      identity = record { address = record { high = 0x00; middle = 0x10; low = 0x3a }; category = 0x01; subcategory = 0x0f; firmware = 0xc1; revision = 0x00 };
-      level = level;
-      flags = flags;
-      properties = record { house = 0x20; unit = 0x20; ramp = ramp; «on_level» = 0xff; led = 0x3f };
-      delta = delta;
-    }
-
+-- a fresh module of document 01's identity
 unfoldable pub fresh : Module
-fresh = bench 0x00 0x00 0x1f 0x00
+fresh =
+    freshDimmer
+    (record { address = record { high = 0x00; middle = 0x10; low = 0x3a }; category = 0x01; subcategory = 0x0f; firmware = 0xc1; revision = 0x00 })
+
+-- the same with one value set; the others that an example alters are set by module
+unfoldable pub withLevel : ℕ → Module → Module
+withLevel x m = withLoad (Lamp.withLevel x (m .load)) m
+
+unfoldable pub withRamp : ℕ → Module → Module
+withRamp x m = withLoad (Lamp.withRamp x (m .load)) m
 
 unfoldable pub us : List ℕ
 us = 0x00 ∷ 0x10 ∷ 0x3a ∷ []
@@ -44,8 +46,8 @@ memory = first-record ++ zeros 8
 unfoldable pub direct : List ℕ → ℕ → ℕ → List ℕ
 direct from one two = from ++ us ++ (0x0f ∷ one ∷ two ∷ [])
 
-unfoldable pub extended : List ℕ → ℕ → ℕ → List ℕ → List ℕ
-extended from one two bytes = from ++ us ++ (0x1f ∷ one ∷ two ∷ bytes)
+unfoldable pub long : List ℕ → ℕ → ℕ → List ℕ → List ℕ
+long from one two bytes = from ++ us ++ (0x1f ∷ one ∷ two ∷ bytes)
 
 unfoldable pub cleanup : List ℕ → ℕ → ℕ → List ℕ
 cleanup from one two = from ++ us ++ (0x4f ∷ one ∷ two ∷ [])

@@ -7,17 +7,17 @@ use lib.Dec.{eqb}
 use Rattle.basis.specs.Choice.{choose}
 use Rattle.basis.specs.Laid.{laid}
 use Rattle.basis.specs.Numbers.{within}
-use Rattle.wire.specs.Bytes.{fromOf, codesOf}
-use Rattle.wire.specs.Kinds.{cleanup}
-use Rattle.reply.specs.declared.due.Sort.{Sort}
+use Rattle.wire.specs.Bytes.{fromOf, command1Of}
+use Rattle.wire.specs.Kinds.{isCleanup}
+use Rattle.reply.specs.declared.due.ReplyType.{ReplyType}
 use Rattle.reply.specs.Message.{standard}
 use Rattle.results.specs.Number.{numberOf}
-use Rattle.dimmer.specs.declared.state.Module.{Module}
+use Rattle.module.specs.declared.state.Module.{Module}
 use Rattle.device.specs.Step.{Step}
 
 -- the stated NAK: to the sender, with Command 1 repeated
 abbrev pub nakOf : Module → List ℕ → ℕ → List ℕ
-nakOf m s two = standard (m .identity .address) (fromOf s) (choose (cleanup s) Sort.CleanupNak Sort.Nak) (codesOf s .one) two
+nakOf m s command2 = standard (m .identity .address) (fromOf s) (choose (isCleanup s) ReplyType.CleanupNak ReplyType.Nak) (command1Of s) command2
 
 -- neither module nor link memory is altered
 pub record Unaltered (m : Module) (l : List ℕ) (t : Step) : Type 0 where

@@ -5,7 +5,7 @@ use mathlib.Core.List.{List, [], _∷_, _++_}
 use lib.ListN.{length}
 use Rattle.results.specs.declared.Outcome.{Outcome}
 use Rattle.device.specs.declared.step.Answer.{Answer}
-use Rattle.device.specs.Step.{Step, Promise}
+use Rattle.device.specs.Step.{Step, StepPromise}
 use Rattle.device.specs.Run.{Call, State, callOf, leftBy, runOf, endOf}
 
 -- of the definitions: at each place of a sequence it is the one call, from the state that the calls before it leave
@@ -31,6 +31,6 @@ seenBy a room = record { outcome = a .outcome; length = a .length; read = a .rea
 pub data Served : State → List Call → List Seen → State → Type 0 where
   none : {s : State} → Served s [] [] s
   next : {s e : State} {c : Call} {cs : List Call} {seen : List Seen} (a : Answer) (links room : List ℕ)
-      → Promise (s .device) (s .links) (c .message) (c .room) a links room
+      → StepPromise (s .device) (s .links) (c .message) (c .room) a links room
       → Served (record { device = a .next; links = links }) cs seen e
       → Served s (c ∷ cs) (seenBy a room ∷ seen) e

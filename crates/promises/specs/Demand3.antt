@@ -6,14 +6,14 @@ use mathlib.Core.List.{List, [], _∷_}
 use mathlib.Core.Logic.{_↔_}
 use lib.Dec.{eqb}
 use lib.ListN.{length}
-use Rattle.wire.specs.Bytes.{fromOf, codesOf, extended}
-use Rattle.wire.specs.Kinds.{direct}
+use Rattle.wire.specs.Bytes.{fromOf, command1Of, isExtended}
+use Rattle.wire.specs.Kinds.{isDirect}
 use Rattle.wire.specs.Reading.{wellFormed}
-use Rattle.links.specs.Record.{fit}
+use Rattle.links.specs.Record.{isFit}
 use Rattle.links.specs.Live.{Linked}
-use Rattle.reply.specs.declared.due.Sort.{Sort}
+use Rattle.reply.specs.declared.due.ReplyType.{ReplyType}
 use Rattle.reply.specs.Message.{standard}
-use Rattle.dimmer.specs.declared.state.Module.{Module}
+use Rattle.module.specs.declared.state.Module.{Module}
 use Rattle.device.specs.Step.{Step, stepOf}
 use Rattle.device.specs.Run.{Call, State, callOf, leftBy, runOf, endOf}
 use Rattle.promises.specs.Room.{dueTo}
@@ -24,18 +24,19 @@ Stranger l s = Linked l (fromOf s) → ⊥
 
 -- a standard ping or a standard ID request
 abbrev pub pingOrId : List ℕ → Bool
-pingOrId s = not (extended s) && (eqb (codesOf s .one) 0x0f || eqb (codesOf s .one) 0x10)
+pingOrId s = not (isExtended s) && (eqb (command1Of s) 0x0f || eqb (command1Of s) 0x10)
 
 -- of a well-formed direct command to us, where there is room for what is due
 abbrev pub NakExactly : Type 0
 NakExactly =
-    (m : Module) (l s room : List ℕ) → fit l ≡ true → wellFormed s (m .identity .address) ≡ true → direct s ≡ true → length (dueTo m l s) ≤ length room →
-    (stepOf m l s room .reply ≡ standard (m .identity .address) (fromOf s) Sort.Nak (codesOf s .one) 0xff) ↔ ((pingOrId s ≡ false) × Stranger l s)
+    (m : Module) (l s room : List ℕ) → isFit l ≡ true → wellFormed s (m .identity .address) ≡ true → isDirect s ≡ true →
+    length (dueTo m l s) ≤ length room →
+    (stepOf m l s room .reply ≡ standard (m .identity .address) (fromOf s) ReplyType.Nak (command1Of s) 0xff) ↔ ((pingOrId s ≡ false) × Stranger l s)
 
 -- to a stranger of both memories two modules of equal identity send equal bytes, whatever the message
 abbrev pub LearnsNothing : Type 0
 LearnsNothing =
-    (m n : Module) (l k s room : List ℕ) → m .identity ≡ n .identity → fit l ≡ true → fit k ≡ true → Stranger l s → Stranger k s →
+    (m n : Module) (l k s room : List ℕ) → m .identity ≡ n .identity → isFit l ≡ true → isFit k ≡ true → Stranger l s → Stranger k s →
     (stepOf m l s room .reply ≡ stepOf n k s room .reply) × (stepOf m l s room .room ≡ stepOf n k s room .room)
 
 -- a sequence from a state, what is left of it without those who are strangers on arrival, and what the whole sequence gives to those left

@@ -9,4 +9,6 @@ pub mod Demand2
 pub mod Demand3
 pub mod OneAnswer
 pub mod Legal
+pub mod LegalDimmer
+pub mod LegalAny
 pub mod Room

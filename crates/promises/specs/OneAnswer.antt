@@ -4,47 +4,57 @@ use mathlib.Core.Path.{_≡_}
 use mathlib.Core.Bool.{Bool}
 use mathlib.Core.List.{List}
 use lib.ListN.{drop}
-use Rattle.basis.specs.Laid.{laid, laidIn}
+use Rattle.basis.specs.Laid.{laid, laidIfFits}
 use Rattle.wire.specs.declared.address.Address.{Address}
-use Rattle.wire.specs.declared.command.Standard.{Standard}
-use Rattle.wire.specs.declared.command.Extended.{Extended}
-use Rattle.wire.specs.declared.command.Turn.{Turn}
-use Rattle.wire.specs.declared.kind.Kind.{Kind}
+use Rattle.wire.specs.declared.request.Request.{Request}
+use Rattle.wire.specs.declared.command.Command.{Command}
+use Rattle.wire.specs.declared.command.GroupCommand.{GroupCommand}
+use Rattle.wire.specs.declared.kind.MessageKind.{MessageKind}
 use Rattle.wire.specs.declared.kind.Message.{Message}
-use Rattle.wire.specs.Bytes
-use Rattle.wire.specs.Bytes.{sameAddress}
-use Rattle.wire.specs.Commands.{standardOf, extendedOf, turnOf}
+use Rattle.wire.specs.Bytes.{isExtended}
+use Rattle.wire.specs.Kinds.{heardAs}
 use Rattle.wire.specs.Reading.{readOf}
+use Rattle.links.specs.declared.memory.Link.{Link}
 use Rattle.links.specs.declared.search.Wanted.{Wanted}
 use Rattle.links.specs.declared.search.Found.{Found}
+use Rattle.links.specs.declared.search.Searched.{Searched}
 use Rattle.links.specs.declared.name.Place.{Place}
-use Rattle.links.specs.Record.{fit, records, recordIn, endMark}
+use Rattle.links.specs.Record.{isFit, records, recordOrBlank, isEndMark}
 use Rattle.links.specs.Name.{nameOf, placeOf}
-use Rattle.links.specs.Search.{searchOf, isFound, readBy}
-use Rattle.links.specs.Write.{writtenIn}
-use Rattle.reply.specs.declared.due.Sort.{Sort}
+use Rattle.links.specs.Search.{searchOf, isFound}
+use Rattle.links.specs.Write.{writtenIfThere}
+use Rattle.reply.specs.declared.due.ReplyType.{ReplyType}
+use Rattle.reply.specs.declared.due.Head.{Head}
 use Rattle.reply.specs.declared.due.Due.{Due}
-use Rattle.reply.specs.declared.send.Size.{Size}
 use Rattle.reply.specs.declared.send.Sent.{Sent}
-use Rattle.reply.specs.Message.{standard, extended}
-use Rattle.reply.specs.Sending.{sizeOf, Sending}
+use Rattle.reply.specs.Reply.{replyOf}
+use Rattle.reply.specs.Sending.{Sending}
 use Rattle.results.specs.declared.Outcome.{Outcome}
 use Rattle.results.specs.Number.{numberOf}
-use Rattle.dimmer.specs.declared.state.Identity.{Identity}
-use Rattle.dimmer.specs.declared.state.Module.{Module}
-use Rattle.dimmer.specs.declared.plan.Plan.{Plan}
-use Rattle.dimmer.specs.Module.{freshOf}
-use Rattle.dimmer.specs.Decide.{wantedOf, planOf}
-use Rattle.device.specs.declared.rule.Ruling.{Ruling}
+use Rattle.module.specs.declared.state.Identity.{Identity}
+use Rattle.module.specs.declared.state.Lamp.{Lamp}
+use Rattle.module.specs.declared.state.Module.{Module}
+use Rattle.module.specs.declared.change.Change.{Change}
+use Rattle.module.specs.declared.deed.Deed.{Deed}
+use Rattle.module.specs.declared.deed.Entry.{Entry}
+use Rattle.module.specs.declared.deed.GroupDeed.{GroupDeed}
+use Rattle.module.specs.declared.plan.Plan.{Plan}
+use Rattle.module.specs.Module.{freshDimmer}
+use Rattle.module.specs.Change.{apply}
+use Rattle.module.specs.Deed
+use Rattle.module.specs.Plan
+use Rattle.shared.specs.Extended.{shownDeed}
+use Rattle.shared.specs.Table.{sharedDeed}
+use Rattle.dimmer.specs.Table.{entryOf}
+use Rattle.dimmer.specs.Groups.{groupDeed}
+use Rattle.decide.specs.declared.rule.Ruling.{Ruling}
+use Rattle.decide.specs.Ruling.{rulingBy}
 use Rattle.device.specs.declared.step.Answer.{Answer}
-use Rattle.device.specs.Ruling.{rulingBy}
-use Rattle.device.specs.Step.{Promise}
+use Rattle.device.specs.Step.{StepPromise}
 use Rattle.modem.specs.declared.arrived.Seen.{Seen}
 use Rattle.modem.specs.Arrived.{seekOf}
-use Rattle.modem.specs.Serve
-use Rattle.modem.specs.Serve.{Turn as Turned}
-use Rattle.embed.specs.Call.{Call}
-use Rattle.embed.specs.Call
+use Rattle.modem.specs.Serve.{Turn, ServePromise}
+use Rattle.embed.specs.Call.{Returned, CallPromise}
 
 -- at most one result meets the promise
 abbrev pub Only : {A : Type 0} → (A → Type 0) → Type 0
@@ -63,35 +73,41 @@ pub record Called : Type 0 where
 
 -- every public function, crate by crate, lowest first
 pub record EachOnce : Type 0 where
-  pub lay : (room bytes : List ℕ) → Only (λ (after : List ℕ). after ≡ laidIn room bytes)
-  pub least : (a b : ℕ) → Only (λ (r : ℕ). r ≡ min a b)
-  pub equals : (a b : Address) → Only (λ (r : Bool). r ≡ sameAddress a b)
-  pub read-standard : (one : ℕ) → Only (λ (r : Standard). r ≡ standardOf one)
-  pub read-extended : (one : ℕ) → Only (λ (r : Extended). r ≡ extendedOf one)
-  pub read-turn : (one : ℕ) → Only (λ (r : Turn). r ≡ turnOf one)
+  pub lay : (room bytes : List ℕ) → Only (λ (after : List ℕ). after ≡ laidIfFits room bytes)
+  pub min-of : (a b : ℕ) → Only (λ (r : ℕ). r ≡ min a b)
   pub read : (s : List ℕ) (own : Address) → Only (λ (r : Message). r ≡ readOf s own)
-  pub is-extended : (s : List ℕ) → Only (λ (r : Bool). r ≡ Bytes.extended s)
-  pub is-fit : (l : List ℕ) → Only (λ (r : Bool). r ≡ fit l)
-  pub size : (l : List ℕ) → Only (λ (r : ℕ). r ≡ records l)
-  pub take-record : (l : List ℕ) (k : ℕ) → Only (λ (r : List ℕ). r ≡ recordIn l k)
-  pub is-end : (r : List ℕ) → Only (λ (b : Bool). b ≡ endMark r)
-  pub search-links : (l : List ℕ) (w : Wanted) → Only (λ (r : Found). r ≡ searchOf l w)
+  pub heard-as : (s : List ℕ) → Only (λ (r : MessageKind). r ≡ heardAs s)
+  pub is-extended : (s : List ℕ) → Only (λ (r : Bool). r ≡ isExtended s)
+  pub is-fit : (l : List ℕ) → Only (λ (r : Bool). r ≡ isFit l)
+  pub how-many : (l : List ℕ) → Only (λ (r : ℕ). r ≡ records l)
+  pub record-or-blank : (l : List ℕ) (k : ℕ) → Only (λ (r : List ℕ). r ≡ recordOrBlank l k)
+  pub is-end-mark : (r : List ℕ) → Only (λ (b : Bool). b ≡ isEndMark r)
+  pub search-links : (l : List ℕ) (w : Wanted) → Only (λ (r : Searched). r ≡ searchOf l w)
   pub is-found : (f : Found) → Only (λ (r : Bool). r ≡ isFound f)
-  pub read-by : (f : Found) → Only (λ (r : ℕ). r ≡ readBy f)
   pub name-of : (k : ℕ) → Only (λ (r : ℕ). r ≡ nameOf k)
   pub place-of : (n address : ℕ) → Only (λ (r : Place). r ≡ placeOf n address)
-  pub write : (l : List ℕ) (k : ℕ) (bytes : List ℕ) → Only (λ (after : List ℕ). after ≡ writtenIn l k bytes)
-  pub put-standard : (room : List ℕ) (from to : Address) (sort : Sort) (one two : ℕ) → Only (λ (after : List ℕ). after ≡ laidIn room (standard from to sort one two))
-  pub put-extended : (room : List ℕ) (from to : Address) (one : ℕ) (d : List ℕ) → Only (λ (after : List ℕ). after ≡ laidIn room (extended from to one d))
-  pub size-of : (l : List ℕ) (due : Due) → Only (λ (r : Size). r ≡ sizeOf l due)
-  pub send : (own : Address) (l : List ℕ) (due : Due) (room : List ℕ) → Only (λ (d : Delivered). Sending own l due room (d .answer) (d .room))
+  pub write : (l : List ℕ) (k : ℕ) (bytes : List ℕ) → Only (λ (after : List ℕ). after ≡ writtenIfThere l k bytes)
+  pub send : (own : Address) (l : List ℕ) (due : Due) (room : List ℕ) → Only (λ (d : Delivered). Sending (replyOf own l due) room (d .answer) (d .room))
   pub number : (o : Outcome) → Only (λ (r : ℕ). r ≡ numberOf o)
-  pub fresh : (i : Identity) → Only (λ (r : Module). r ≡ freshOf i)
-  pub wanted-of : (kind : Kind) → Only (λ (r : Wanted). r ≡ wantedOf kind)
-  pub plan-of : (m : Module) (kind : Kind) (d : List ℕ) (n : ℕ) (found : Found) → Only (λ (r : Plan). r ≡ planOf m kind d n found)
+  pub fresh-dimmer : (i : Identity) → Only (λ (r : Module). r ≡ freshDimmer i)
+  pub apply-change : (m : Module) (change : Change) → Only (λ (r : Module). r ≡ apply change m)
+  pub acked : (change : Change) → Only (λ (r : Deed). r ≡ Deed.acked change)
+  pub telling : (x : ℕ) → Only (λ (r : Deed). r ≡ Deed.telling x)
+  pub limited : (a b x : ℕ) (change : Change) → Only (λ (r : Deed). r ≡ Deed.limited a b x change)
+  pub headed : (type : ReplyType) (q : Request) (one two : ℕ) → Only (λ (r : Head). r ≡ Plan.headed type q one two)
+  pub done : (change : Change) (due : Due) → Only (λ (r : Plan). r ≡ Plan.done change due)
+  pub refused : (o : Outcome) (due : Due) → Only (λ (r : Plan). r ≡ Plan.refused o due)
+  pub unlinked : (type : ReplyType) (q : Request) → Only (λ (r : Plan). r ≡ Plan.unlinked type q)
+  pub unlisted : (type : ReplyType) (q : Request) → Only (λ (r : Plan). r ≡ Plan.unlisted type q)
+  pub deed-plan : (m : Module) (q : Request) (deed : Deed) → Only (λ (r : Plan). r ≡ Plan.deedPlan m q deed)
+  pub shown-deed : (m : Module) (data1 ramp level : ℕ) → Only (λ (r : Deed). r ≡ shownDeed m data1 ramp level)
+  pub shared-deed : (m : Module) (q : Request) (d : List ℕ) (n : ℕ) (command : Command) → Only (λ (r : Deed). r ≡ sharedDeed m q d n command)
+  pub entry-of : (m : Module) (lamp : Lamp) (q : Request) (d : List ℕ) (command : Command) → Only (λ (r : Entry). r ≡ entryOf m lamp q d command)
+  pub group-deed : (lamp : Lamp) (command : GroupCommand) (link : Link) → Only (λ (r : GroupDeed). r ≡ groupDeed lamp command link)
   pub rule : (m : Module) (l : List ℕ) (message : Message) → Only (λ (r : Ruling). r ≡ rulingBy m l message)
-  pub step : (m : Module) (l s room : List ℕ) → Only (λ (d : Called). Promise m l s room (d .answer) (d .links) (d .room))
+  pub step : (m : Module) (l s room : List ℕ) → Only (λ (d : Called). StepPromise m l s room (d .answer) (d .links) (d .room))
   pub seek : (s : List ℕ) → Only (λ (r : Seen). r ≡ seekOf s)
   pub keep : (held : List ℕ) (from : ℕ) → Only (λ (after : List ℕ). after ≡ laid (drop from held) held)
-  pub serve : (m : Module) (l frame room out : List ℕ) → Only (λ (t : Turned). Serve.Promise m l frame room out (t .served) (t .links) (t .room) (t .out))
-  pub dreelish-step : (image l s room report : List ℕ) → Only (λ (c : Call). Call.Promise image l s room report (c .number) (c .image) (c .links) (c .room) (c .report))
+  pub serve : (m : Module) (l frame room out : List ℕ) → Only (λ (t : Turn). ServePromise m l frame room out (t .served) (t .links) (t .room) (t .out))
+  pub dreelish-step : (image l s room report : List ℕ)
+      → Only (λ (c : Returned). CallPromise image l s room report (c .number) (c .image) (c .links) (c .room) (c .report))

@@ -2,7 +2,7 @@
 use Prim.Native.Nat.{ℕ}
 use mathlib.Core.List.{List, [], _∷_, _++_}
 use lib.ListN.{take}
-use Rattle.promises.specs.Bench.{fresh, us, linked, stranger, zeros, other-record, memory, direct, extended, cleanup, broadcast, reply, room}
+use Rattle.promises.specs.Bench.{fresh, us, linked, stranger, zeros, other-record, memory, direct, long, cleanup, broadcast, reply, room}
 use Rattle.promises.specs.Table.{Example, row}
 
 -- a ping of the linked sender, by its flags
@@ -63,7 +63,7 @@ refusals =
     row fresh memory (linked ++ (0x00 ∷ 0x10 ∷ 0x3b ∷ 0x1f ∷ 0x20 ∷ 0x05 ∷ zeros 14)) (room 64)
     3 [] 0 fresh memory (room 64) ∷
     -- 4 before 6: a stranger, and the sum wrong
-    row fresh memory (extended stranger 0x20 0x05 (zeros 14)) (room 64)
+    row fresh memory (long stranger 0x20 0x05 (zeros 14)) (room 64)
     4 [] 0 fresh memory (room 64) ∷
     -- 4: an extended ping is checked
     row fresh memory (ping 0x1f ++ zeros 14) (room 64)
@@ -72,16 +72,16 @@ refusals =
     row fresh memory (direct stranger 0x39 0x65) (room 64)
     6 (reply stranger 0xab 0x39 0xff) 2 fresh memory (reply stranger 0xab 0x39 0xff ++ room 55) ∷
     -- 6: an extended ping of a stranger
-    row fresh memory (extended stranger 0x0f 0x00 (zeros 13 ++ (0xf1 ∷ []))) (room 64)
+    row fresh memory (long stranger 0x0f 0x00 (zeros 13 ++ (0xf1 ∷ []))) (room 64)
     6 (reply stranger 0xab 0x0f 0xff) 2 fresh memory (reply stranger 0xab 0x0f 0xff ++ room 55) ∷
     -- 7: an extended ping of a linked sender
-    row fresh memory (extended linked 0x0f 0x00 (zeros 13 ++ (0xf1 ∷ []))) (room 64)
+    row fresh memory (long linked 0x0f 0x00 (zeros 13 ++ (0xf1 ∷ []))) (room 64)
     7 (reply linked 0xab 0x0f 0xfb) 1 fresh memory (reply linked 0xab 0x0f 0xfb ++ room 55) ∷
     -- 7: Get Properties with Command 2 = 01, unchecked
-    row fresh memory (extended linked 0x2e 0x01 (zeros 14)) (room 64)
+    row fresh memory (long linked 0x2e 0x01 (zeros 14)) (room 64)
     7 (reply linked 0xab 0x2e 0xfb) 1 fresh memory (reply linked 0xab 0x2e 0xfb ++ room 55) ∷
     -- 7: the write of source document 000, whose checksum is 58
-    row fresh memory (extended linked 0x2f 0x00 (0x00 ∷ 0x02 ∷ 0xff ∷ 0xf0 ∷ 0x08 ∷ 0xa2 ∷ 0x05 ∷ 0x00 ∷ 0x5e ∷ 0x5d ∷ 0xfe ∷ 0x1f ∷ 0x01 ∷ 0x58 ∷ [])) (room 64)
+    row fresh memory (long linked 0x2f 0x00 (0x00 ∷ 0x02 ∷ 0xff ∷ 0xf0 ∷ 0x08 ∷ 0xa2 ∷ 0x05 ∷ 0x00 ∷ 0x5e ∷ 0x5d ∷ 0xfe ∷ 0x1f ∷ 0x01 ∷ 0x58 ∷ [])) (room 64)
     7 (reply linked 0xab 0x2f 0xfb) 1 fresh memory (reply linked 0xab 0x2f 0xfb ++ room 55) ∷
     -- 7: a cleanup with Command 1 = 15
     row fresh memory (cleanup linked 0x15 0x01) (room 64)
@@ -93,7 +93,7 @@ refusals =
     row fresh memory (direct linked 0x39 0x65) (room 8)
     5 [] 1 fresh memory (room 8) ∷
     -- 5: the record is not written
-    row fresh memory (extended linked 0x2f 0x00 (0x01 ∷ 0x02 ∷ 0x0f ∷ 0xff ∷ 0x08 ∷ (other-record ++ (0x11 ∷ [])))) (room 8)
+    row fresh memory (long linked 0x2f 0x00 (0x01 ∷ 0x02 ∷ 0x0f ∷ 0xff ∷ 0x08 ∷ (other-record ++ (0x11 ∷ [])))) (room 8)
     5 [] 1 fresh memory (room 8) ∷
     -- 8: a broadcast to no group
     row fresh memory (broadcast linked (0x00 ∷ 0x01 ∷ 0x01 ∷ []) 0x11 0x00) (room 64)

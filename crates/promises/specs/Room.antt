@@ -6,8 +6,8 @@ use mathlib.Core.Logic.{_↔_}
 use lib.ListN.{length}
 use Rattle.reply.specs.Reply.{replyOf}
 use Rattle.results.specs.Number.{numberOf}
-use Rattle.dimmer.specs.declared.state.Module.{Module}
-use Rattle.device.specs.Ruling.{rulingOf}
+use Rattle.module.specs.declared.state.Module.{Module}
+use Rattle.decide.specs.Ruling.{rulingOf}
 use Rattle.device.specs.Step.{stepOf}
 
 -- the reply that is due to a message, whatever the room

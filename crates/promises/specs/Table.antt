@@ -3,7 +3,7 @@ use Prim.Native.Nat.{ℕ}
 use mathlib.Core.Path.{_≡_}
 use mathlib.Core.List.{List, map}
 use Rattle.results.specs.Number.{numberOf}
-use Rattle.dimmer.specs.declared.state.Module.{Module}
+use Rattle.module.specs.declared.state.Module.{Module}
 use Rattle.device.specs.Step.{Step}
 use Rattle.device.specs.Run.{Call, State, callOf}
 

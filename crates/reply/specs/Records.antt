@@ -6,7 +6,7 @@ use lib.Dec.{eqb}
 use Rattle.basis.specs.Choice.{choose}
 use Rattle.basis.specs.First.{firstFrom}
 use Rattle.wire.specs.declared.address.Address.{Address}
-use Rattle.links.specs.Record.{records, recordAt, endMark}
+use Rattle.links.specs.Record.{records, recordAt, isEndMark}
 use Rattle.links.specs.Name.{nameOf}
 use Rattle.reply.specs.Message.{extended}
 
@@ -22,16 +22,20 @@ recordsFrom own to data1 l zero k = []
 recordsFrom own to data1 l (suc n) k = recordMessage own to data1 l k ++ recordsFrom own to data1 l n (k + 1)
 
 -- as many as count says, 00 for no limit, and none behind the memory's end
-abbrev pub limitOf : List ℕ → ℕ → ℕ → ℕ
-limitOf l k count = min (records l - k) (choose (eqb count 0) (records l) count)
+abbrev pub limit : List ℕ → ℕ → ℕ → ℕ
+limit l k count = min (records l - k) (choose (eqb count 0) (records l) count)
 
 abbrev pub markAt : List ℕ → ℕ → Bool
-markAt l k = endMark (recordAt l k)
+markAt l k = isEndMark (recordAt l k)
 
 -- of n records from k on, those before the first end mark, and the end mark
 unfoldable pub upToMark : List ℕ → ℕ → ℕ → ℕ
 upToMark l n k = min n (firstFrom (markAt l) n k + 1 - k)
 
 -- how many are sent from record k on
-abbrev pub sentOf : List ℕ → ℕ → ℕ → ℕ
-sentOf l k count = upToMark l (limitOf l k count) k
+abbrev pub countSent : List ℕ → ℕ → ℕ → ℕ
+countSent l k count = upToMark l (limit l k count) k
+
+-- their messages
+abbrev pub sentRecords : Address → Address → ℕ → List ℕ → ℕ → ℕ → List ℕ
+sentRecords own to data1 l k count = recordsFrom own to data1 l (countSent l k count) k

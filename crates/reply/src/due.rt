@@ -1,8 +1,8 @@
 // What reply is due for a message, by value ("Message bytes", "Direct commands").
 use wire::address::Address;
 
-// What sort of message a reply is; its flags byte tells it on the wire.
-pub enum Sort {
+// What type of message a reply is; its flags byte tells it on the wire.
+pub enum ReplyType {
     Ack,
     Nak,
     CleanupAck,
@@ -13,19 +13,28 @@ pub enum Sort {
 
 // The standard message that a reply begins with, to the sender.
 pub struct Head {
-    pub sort: Sort,
+    pub reply_type: ReplyType,
     pub to: Address,
-    pub one: u8,
-    pub two: u8,
+    pub command1: u8,
+    pub command2: u8,
 }
 
-// What Get Properties shows.
-pub struct Properties {
-    pub house: u8,
-    pub unit: u8,
-    pub ramp: u8,
-    pub on_level: u8,
-    pub led: u8,
+// Data 1 to Data 14 by name, since what is due is an enum, and no enum holds an array.
+pub struct DataBytes {
+    pub d1: u8,
+    pub d2: u8,
+    pub d3: u8,
+    pub d4: u8,
+    pub d5: u8,
+    pub d6: u8,
+    pub d7: u8,
+    pub d8: u8,
+    pub d9: u8,
+    pub d10: u8,
+    pub d11: u8,
+    pub d12: u8,
+    pub d13: u8,
+    pub d14: u8,
 }
 
 // The whole reply that is due.
@@ -35,8 +44,8 @@ pub enum Due {
     Alone(Head),
     // Then a broadcast of category, subcategory and firmware, and of the hardware revision.
     WithId(Head, Address, u8),
-    // Then the properties, with Data 1 as it was sent.
-    WithProperties(Head, u8, Properties),
+    // Then an extended message of Get Properties.
+    WithProperties(Head, DataBytes),
     // Then records: Data 1 as it was sent, the first record, and how many at most, 0 for no limit.
     WithRecords(Head, u8, usize, usize),
 }

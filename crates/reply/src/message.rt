@@ -1,29 +1,36 @@
 // The writer of one message, which gets the remaining part of the reply room ("Message bytes").
 use crate::due::Head;
-use crate::due::Sort;
+use crate::due::ReplyType;
 use wire::address::Address;
 ghost use mathlib.Core.Path.{_≡_};
-ghost use Rattle.basis.specs.Laid.{laidIn};
-ghost use Rattle.reply.specs.Message.{flagsOf, standard, extended, headOf};
+ghost use Rattle.basis.specs.Laid.{laidIfFits};
+ghost use Rattle.reply.specs.Message.{replyFlags, standard, extended, headOf};
 
-pub(crate) fn flags_of(sort: Sort) -> u8
-    ensures { λ r. ⌜ r ≡ flagsOf sort ⌝ }
+fn reply_flags(reply_type: ReplyType) -> u8
+    ensures { λ r. ⌜ r ≡ replyFlags «reply_type» ⌝ }
 {
-    match sort {
-        Sort::Ack => 0x2b,
-        Sort::Nak => 0xab,
-        Sort::CleanupAck => 0x6b,
-        Sort::CleanupNak => 0xeb,
-        Sort::IdBroadcast => 0x8f,
-        Sort::Data => 0x11,
+    match reply_type {
+        ReplyType::Ack => 0x2b,
+        ReplyType::Nak => 0xab,
+        ReplyType::CleanupAck => 0x6b,
+        ReplyType::CleanupNak => 0xeb,
+        ReplyType::IdBroadcast => 0x8f,
+        ReplyType::Data => 0x11,
     }
 }
 
 // A standard message, nine bytes. Where they do not fit, nothing is written; so it is with every message here.
-pub fn put_standard(room: &mut [u8], from: Address, to: Address, sort: Sort, one: u8, two: u8)
-    ensures { λ _. ⌜ now (room .exit) ≡ laidIn (now (room .entry)) (standard from to sort one two) ⌝ }
+pub(crate) fn put_standard(
+    room: &mut [u8],
+    from: Address,
+    to: Address,
+    reply_type: ReplyType,
+    command1: u8,
+    command2: u8,
+)
+    ensures { λ _. ⌜ now (room .exit) ≡ laidIfFits (now (room .entry)) (standard from to «reply_type» command1 command2) ⌝ }
 {
-    let flags = flags_of(sort);
+    let flags = reply_flags(reply_type);
     let bytes = [
         from.high,
         from.middle,
@@ -32,26 +39,32 @@ pub fn put_standard(room: &mut [u8], from: Address, to: Address, sort: Sort, one
         to.middle,
         to.low,
         flags,
-        one,
-        two,
+        command1,
+        command2,
     ];
     basis::lay(room, &bytes);
 }
 
 // The standard message that a reply begins with.
 pub(crate) fn put_head(room: &mut [u8], own: Address, head: Head)
-    ensures { λ _. ⌜ now (room .exit) ≡ laidIn (now (room .entry)) (headOf own head) ⌝ }
+    ensures { λ _. ⌜ now (room .exit) ≡ laidIfFits (now (room .entry)) (headOf own head) ⌝ }
 {
-    let sort = head.sort;
+    let reply_type = head.reply_type;
     let to = head.to;
-    put_standard(room, own, to, sort, head.one, head.two);
+    put_standard(room, own, to, reply_type, head.command1, head.command2);
 }
 
 // An extended message, twenty-three bytes: Command 1, 00, and fourteen bytes of data.
-pub fn put_extended(room: &mut [u8], from: Address, to: Address, one: u8, data: [u8; 14])
-    ensures { λ _. ⌜ now (room .exit) ≡ laidIn (now (room .entry)) (extended from to one «data») ⌝ }
+pub(crate) fn put_extended(
+    room: &mut [u8],
+    from: Address,
+    to: Address,
+    command1: u8,
+    data: [u8; 14],
+)
+    ensures { λ _. ⌜ now (room .exit) ≡ laidIfFits (now (room .entry)) (extended from to command1 «data») ⌝ }
 {
-    let flags = flags_of(Sort::Data);
+    let flags = reply_flags(ReplyType::Data);
     let bytes = [
         from.high,
         from.middle,
@@ -60,7 +73,7 @@ pub fn put_extended(room: &mut [u8], from: Address, to: Address, one: u8, data: 
         to.middle,
         to.low,
         flags,
-        one,
+        command1,
         0x00,
         data[0],
         data[1],

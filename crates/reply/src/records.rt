@@ -1,29 +1,29 @@
 // The records that Get Database sends ("Direct commands, extended").
 use crate::message::put_extended;
-use links::memory::is_end;
-use links::memory::size;
-use links::memory::take_record;
+use links::memory::is_end_mark;
+use links::memory::record_or_blank;
+use links::memory::records;
 use links::name::name_of;
 use wire::address::Address;
 ghost use mathlib.Core.Path.{_≡_};
 ghost use Prim.Native.Nat.{_-_, _*_, _≤_, _<_};
 ghost use lib.ListN.{length};
-ghost use Rattle.basis.specs.Laid.{laidIn};
+ghost use Rattle.basis.specs.Laid.{laidIfFits};
 ghost use Rattle.links.specs.Record.{records};
-ghost use Rattle.reply.specs.Records.{limitOf, upToMark, sentOf, recordMessage, recordsFrom};
+ghost use Rattle.reply.specs.Records.{limit, upToMark, countSent, recordMessage, recordsFrom};
 
 // How many records are sent from record `k` on, where `count` are asked for.
 pub(crate) fn count_sent(links: &[u8], k: usize, count: usize) -> usize
-    ensures { λ r. ⌜ r ≡ sentOf (now (links .entry)) k count ⌝ }
+    ensures { λ r. ⌜ r ≡ countSent (now (links .entry)) k count ⌝ }
 {
     up_to_mark(links, k, limit(links, k, count))
 }
 
 // Those that are asked for, 0 for no limit, as far as there are any.
 fn limit(links: &[u8], k: usize, count: usize) -> usize
-    ensures { λ r. ⌜ r ≡ limitOf (now (links .entry)) k count ⌝ }
+    ensures { λ r. ⌜ r ≡ limit (now (links .entry)) k count ⌝ }
 {
-    let n = size(links);
+    let n = records(links);
     if n <= k {
         return 0;
     }
@@ -44,9 +44,9 @@ fn up_to_mark(links: &[u8], k: usize, n: usize) -> usize
         if i == n {
             break i;
         }
-        let record = take_record(links, k + i);
+        let record = record_or_blank(links, k + i);
         i += 1;
-        if is_end(record) {
+        if is_end_mark(record) {
             break i;
         }
     }
@@ -55,12 +55,12 @@ fn up_to_mark(links: &[u8], k: usize, n: usize) -> usize
 // One record in the remaining part of the room.
 fn put_record(room: &mut [u8], own: Address, to: Address, data1: u8, links: &[u8], k: usize)
     requires { ⌜ k < records (now links) ⌝ }
-    ensures { λ _. ⌜ now (room .exit) ≡ laidIn (now (room .entry)) (recordMessage own to data1 (now (links .entry)) k) ⌝ }
+    ensures { λ _. ⌜ now (room .exit) ≡ laidIfFits (now (room .entry)) (recordMessage own to data1 (now (links .entry)) k) ⌝ }
 {
     let name = name_of(k);
     let high = (name / 256) as u8;
     let low = (name % 256) as u8;
-    let r = take_record(links, k);
+    let r = record_or_blank(links, k);
     let data = [
         data1,
         0x01,
@@ -92,7 +92,7 @@ pub(crate) fn put_records(
 )
     requires { ⌜ n ≤ records (now links) - k ⌝ }
     requires { ⌜ 23 * n ≤ length (now room) ⌝ }
-    ensures { λ _. ⌜ now (room .exit) ≡ laidIn (now (room .entry)) (recordsFrom own to data1 (now (links .entry)) n k) ⌝ }
+    ensures { λ _. ⌜ now (room .exit) ≡ laidIfFits (now (room .entry)) (recordsFrom own to data1 (now (links .entry)) n k) ⌝ }
 {
     let mut i: usize = 0;
     while i < n {

@@ -7,20 +7,20 @@ use borrow.Author.Tests.{not-true}
 use Rattle.basis.specs.Choice.{choose}
 use Rattle.basis.proofs.Tests.{both}
 use Rattle.wire.specs.declared.address.Address.{Address}
-use Rattle.wire.specs.declared.kind.Kind.{Kind}
+use Rattle.wire.specs.declared.kind.MessageKind.{MessageKind}
 use Rattle.wire.specs.declared.kind.Reading.{Reading}
-use Rattle.wire.specs.Bytes.{fromOf, codesOf, dataOf, extended, whole}
-use Rattle.wire.specs.Kinds.{direct, foreign, commandOf, kindOf}
-use Rattle.wire.specs.Checksum.{sumWrong}
+use Rattle.wire.specs.Bytes.{command1Of, requestOf, dataOf, isExtended, isWhole}
+use Rattle.wire.specs.Kinds.{isDirect, isForeign, commandOf, kindOf}
+use Rattle.wire.specs.Checksum.{isSumWrong}
 use Rattle.wire.specs.Reading.{wellFormed, readOf}
 
 module _ (s : List ℕ) (own : Address) (w : wellFormed s own ≡ true) where
-  pub parts : (whole s ≡ true) × (foreign s own ≡ false) × (sumWrong s ≡ false)
+  pub parts : (isWhole s ≡ true) × (isForeign s own ≡ false) × (isSumWrong s ≡ false)
   parts =
-      let a = both (whole s && not (foreign s own)) (not (sumWrong s)) w in
-      let b = both (whole s) (not (foreign s own)) (a .0) in
+      let a = both (isWhole s && not (isForeign s own)) (not (isSumWrong s)) w in
+      let b = both (isWhole s) (not (isForeign s own)) (a .0) in
       (b .0, not-true _ (b .1), not-true _ (a .1))
 
-  pub heard : direct s ≡ true → readOf s own ≡ record { reading = Reading.Heard (Kind.Direct (fromOf s) (commandOf (extended s) (codesOf s .one)) (codesOf s)); «data» = dataOf s }
+  pub heard : isDirect s ≡ true → readOf s own ≡ record { reading = Reading.Heard (MessageKind.Direct (requestOf s) (commandOf (isExtended s) (command1Of s))); «data» = dataOf s }
   unfolding readOf kindOf choose
   heard d = rw (parts .0, parts .1, parts .2, d)

@@ -8,21 +8,21 @@ use lib.Dec.{eqb}
 use lib.ListN.{length}
 use borrow.Author.Tests.{eqb-true}
 use Rattle.basis.specs.Choice.{choose}
-use Rattle.wire.specs.Bytes.{extended, whole}
+use Rattle.wire.specs.Bytes.{isExtended, isWhole}
 
-module _ (s : List ℕ) (h : whole s ≡ true) where
+module _ (s : List ℕ) (h : isWhole s ≡ true) where
   pub enough : 9 ≤ length s
   unfolding choose
-  enough = go (extended s) (eqb-true (length s) _ h)
+  enough = go (isExtended s) (eqb-true (length s) _ h)
     where
       go : (e : Bool) → length s ≡ choose e 23 9 → 9 ≤ length s
       go true p = omega arith
       go false p = omega arith
 
   -- its length tells whether it is extended
-  pub by-length : extended s ≡ eqb (length s) 23
+  pub by-length : isExtended s ≡ eqb (length s) 23
   unfolding choose
-  by-length = go (extended s) (eqb-true (length s) _ h)
+  by-length = go (isExtended s) (eqb-true (length s) _ h)
     where
       go : (e : Bool) → length s ≡ choose e 23 9 → e ≡ eqb (length s) 23
       go true p = rw p
@@ -30,7 +30,7 @@ module _ (s : List ℕ) (h : whole s ≡ true) where
 
   pub nine : (length s ≡ 23 → ⊥) → length s ≡ 9
   unfolding choose
-  nine short = go (extended s) (eqb-true (length s) _ h)
+  nine short = go (isExtended s) (eqb-true (length s) _ h)
     where
       go : (e : Bool) → length s ≡ choose e 23 9 → length s ≡ 9
       go true p = absurd (short p)

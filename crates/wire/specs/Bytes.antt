@@ -1,19 +1,20 @@
 -- The bytes of a message ("Message bytes").
-use Prim.Native.Nat.{ℕ, _+_}
+use Prim.Native.Nat.{ℕ, _+_, _-_}
 use mathlib.Core.Bool.{Bool, _&&_}
-use mathlib.Core.List.{List, [], _∷_}
+use mathlib.Core.List.{List}
 use lib.Dec.{eqb}
 use lib.ListN.{length, getD}
 use Rattle.basis.specs.Numbers.{isSet}
 use Rattle.basis.specs.Choice.{choose}
+use Rattle.basis.specs.Spell.{spell}
 use Rattle.wire.specs.declared.address.Address.{Address}
-use Rattle.wire.specs.declared.command.Codes.{Codes}
+use Rattle.wire.specs.declared.request.Request.{Request}
 
 abbrev pub addressAt : List ℕ → ℕ → Address
 addressAt s k = record { high = getD s k 0; middle = getD s (k + 1) 0; low = getD s (k + 2) 0 }
 
-abbrev pub sameAddress : Address → Address → Bool
-sameAddress a b = eqb (a .high) (b .high) && eqb (a .middle) (b .middle) && eqb (a .low) (b .low)
+abbrev pub equals : Address → Address → Bool
+equals a b = eqb (a .high) (b .high) && eqb (a .middle) (b .middle) && eqb (a .low) (b .low)
 
 -- From (3), To (3), flags, Command 1, Command 2
 abbrev pub fromOf : List ℕ → Address
@@ -25,22 +26,30 @@ toOf s = addressAt s 3
 abbrev pub flagsOf : List ℕ → ℕ
 flagsOf s = getD s 6 0
 
-abbrev pub codesOf : List ℕ → Codes
-codesOf s = record { one = getD s 7 0; two = getD s 8 0 }
+abbrev pub command1Of : List ℕ → ℕ
+command1Of s = getD s 7 0
+
+abbrev pub command2Of : List ℕ → ℕ
+command2Of s = getD s 8 0
+
+abbrev pub requestOf : List ℕ → Request
+requestOf s = record { from = fromOf s; command1 = command1Of s; command2 = command2Of s }
 
 -- then Data 1 to Data 14, of an extended message; 00 where a message has none
 abbrev pub dataAt : List ℕ → ℕ → ℕ
 dataAt s i = getD s (8 + i) 0
 
 abbrev pub dataOf : List ℕ → List ℕ
-dataOf s =
-    dataAt s 1 ∷ dataAt s 2 ∷ dataAt s 3 ∷ dataAt s 4 ∷ dataAt s 5 ∷ dataAt s 6 ∷ dataAt s 7 ∷
-    dataAt s 8 ∷ dataAt s 9 ∷ dataAt s 10 ∷ dataAt s 11 ∷ dataAt s 12 ∷ dataAt s 13 ∷ dataAt s 14 ∷ []
+dataOf s = spell 14 9 s
+
+-- Data i among these
+abbrev pub dataIn : List ℕ → ℕ → ℕ
+dataIn d i = getD d (i - 1) 0
 
 -- flags bit 4 set means extended
-abbrev pub extended : List ℕ → Bool
-extended s = isSet 4 (flagsOf s)
+abbrev pub isExtended : List ℕ → Bool
+isExtended s = isSet 4 (flagsOf s)
 
 -- 23 bytes where it is extended, else 9: result 1 does not apply
-abbrev pub whole : List ℕ → Bool
-whole s = eqb (length s) (choose (extended s) 23 9)
+abbrev pub isWhole : List ℕ → Bool
+isWhole s = eqb (length s) (choose (isExtended s) 23 9)

@@ -5,32 +5,35 @@ use Rattle.basis.specs.Choice.{choose}
 use Rattle.basis.specs.Numbers.{within}
 use Rattle.basis.specs.Table.{Row, among, _⇒_}
 use Rattle.wire.specs.declared.command.Standard.{Standard}
+use Rattle.wire.specs.declared.command.OpenCommand.{OpenCommand}
+use Rattle.wire.specs.declared.command.ModuleCommand.{ModuleCommand}
+use Rattle.wire.specs.declared.command.LoadCommand.{LoadCommand}
 use Rattle.wire.specs.declared.command.Extended.{Extended}
-use Rattle.wire.specs.declared.command.Turn.{Turn}
+use Rattle.wire.specs.declared.command.GroupCommand.{GroupCommand}
 
 -- "Direct commands, standard"
 unfoldable pub standards : List (Row Standard)
 standards =
-    0x0f ⇒ Standard.Ping ∷
-    0x10 ⇒ Standard.IdRequest ∷
-    0x0d ⇒ Standard.EngineVersion ∷
-    0x11 ⇒ Standard.On ∷
-    0x12 ⇒ Standard.OnFast ∷
-    0x21 ⇒ Standard.Instant ∷
-    0x13 ⇒ Standard.Off ∷
-    0x14 ⇒ Standard.OffFast ∷
-    0x15 ⇒ Standard.Brighten ∷
-    0x16 ⇒ Standard.Dim ∷
-    0x19 ⇒ Standard.Status ∷
-    0x1f ⇒ Standard.ReadFlags ∷
-    0x2e ⇒ Standard.OnAtRamp ∷
-    0x2f ⇒ Standard.OffAtRamp ∷
-    0x30 ⇒ Standard.Beep ∷
-    0x39 ⇒ Standard.Percent ∷
+    0x0f ⇒ Standard.Open OpenCommand.Ping ∷
+    0x10 ⇒ Standard.Open OpenCommand.IdRequest ∷
+    0x0d ⇒ Standard.Module ModuleCommand.EngineVersion ∷
+    0x11 ⇒ Standard.Load LoadCommand.On ∷
+    0x12 ⇒ Standard.Load LoadCommand.OnFast ∷
+    0x21 ⇒ Standard.Load LoadCommand.Instant ∷
+    0x13 ⇒ Standard.Load LoadCommand.Off ∷
+    0x14 ⇒ Standard.Load LoadCommand.OffFast ∷
+    0x15 ⇒ Standard.Load LoadCommand.Brighten ∷
+    0x16 ⇒ Standard.Load LoadCommand.Dim ∷
+    0x19 ⇒ Standard.Load LoadCommand.Status ∷
+    0x1f ⇒ Standard.Module ModuleCommand.ReadFlags ∷
+    0x2e ⇒ Standard.Load LoadCommand.OnAtRamp ∷
+    0x2f ⇒ Standard.Load LoadCommand.OffAtRamp ∷
+    0x30 ⇒ Standard.Module ModuleCommand.Beep ∷
+    0x39 ⇒ Standard.Load LoadCommand.Percent ∷
     []
 
 abbrev pub standardOf : ℕ → Standard
-standardOf one = among one Standard.Unlisted standards
+standardOf command1 = among command1 Standard.Unlisted standards
 
 -- "Direct commands, extended"
 unfoldable pub extendeds : List (Row Extended)
@@ -41,11 +44,11 @@ extendeds =
     []
 
 abbrev pub extendedOf : ℕ → Extended
-extendedOf one = among one Extended.Unlisted extendeds
+extendedOf command1 = among command1 Extended.Unlisted extendeds
 
 -- "Groups": 11 and 12 turn on, 13 and 14 off
-unfoldable pub turnOf : ℕ → Turn
-turnOf one =
-    choose (within 0x11 0x12 one) Turn.On
-    (choose (within 0x13 0x14 one) Turn.Off
-    Turn.Unlisted)
+unfoldable pub groupCommandOf : ℕ → GroupCommand
+groupCommandOf command1 =
+    choose (within 0x11 0x12 command1) GroupCommand.On
+    (choose (within 0x13 0x14 command1) GroupCommand.Off
+    GroupCommand.Unlisted)

@@ -2,44 +2,54 @@
 use Prim.Native.Nat.{ℕ, _/_}
 use mathlib.Core.Bool.{Bool, _&&_, _||_, not}
 use mathlib.Core.List.{List}
-use lib.Dec.{eqb}
+use lib.Dec.{eqb, ltb}
+use lib.ListN.{length}
 use Rattle.basis.specs.Choice.{choose}
 use Rattle.wire.specs.declared.address.Address.{Address}
 use Rattle.wire.specs.declared.command.Command.{Command}
-use Rattle.wire.specs.declared.kind.Kind.{Kind}
-use Rattle.wire.specs.Bytes.{fromOf, toOf, flagsOf, codesOf, extended, sameAddress}
-use Rattle.wire.specs.Commands.{standardOf, extendedOf, turnOf}
+use Rattle.wire.specs.declared.kind.MessageKind.{MessageKind}
+use Rattle.wire.specs.Bytes.{fromOf, toOf, flagsOf, command1Of, requestOf, isExtended, equals}
+use Rattle.wire.specs.Commands.{standardOf, extendedOf, groupCommandOf}
 
 -- bits 7 to 5 as a number
 abbrev pub typeOf : List ℕ → ℕ
 typeOf s = flagsOf s / 32
 
 -- 000
-abbrev pub direct : List ℕ → Bool
-direct s = eqb (typeOf s) 0
+abbrev pub isDirect : List ℕ → Bool
+isDirect s = eqb (typeOf s) 0
 
 -- 010
-abbrev pub cleanup : List ℕ → Bool
-cleanup s = eqb (typeOf s) 2
+abbrev pub isCleanup : List ℕ → Bool
+isCleanup s = eqb (typeOf s) 2
 
 -- 110
-abbrev pub broadcast : List ℕ → Bool
-broadcast s = eqb (typeOf s) 6
+abbrev pub isBroadcast : List ℕ → Bool
+isBroadcast s = eqb (typeOf s) 6
 
--- result 3: another type; extended but not direct; direct or cleanup with To not ours
-abbrev pub foreign : List ℕ → Address → Bool
-foreign s own =
-    not (direct s || cleanup s || broadcast s) ||
-    (extended s && not (direct s)) ||
-    ((direct s || cleanup s) && not (sameAddress (toOf s) own))
+-- of no kind that we hear: another type; extended but not direct
+abbrev pub isUnheard : List ℕ → Bool
+isUnheard s = not (isDirect s || isCleanup s || isBroadcast s) || (isExtended s && not (isDirect s))
+
+-- not addressed to us: direct or cleanup with To not ours
+abbrev pub isAstray : List ℕ → Address → Bool
+isAstray s own = (isDirect s || isCleanup s) && not (equals (toOf s) own)
+
+-- result 3
+abbrev pub isForeign : List ℕ → Address → Bool
+isForeign s own = isUnheard s || isAstray s own
 
 -- a direct command, by the message's length and Command 1
 abbrev pub commandOf : Bool → ℕ → Command
-commandOf long one = choose long (Command.Extended (extendedOf one)) (Command.Standard (standardOf one))
+commandOf long command1 = choose long (Command.Extended (extendedOf command1)) (Command.Standard (standardOf command1))
 
 -- the kind of a message that is not foreign
-unfoldable pub kindOf : List ℕ → Kind
+unfoldable pub kindOf : List ℕ → MessageKind
 kindOf s =
-    choose (direct s) (Kind.Direct (fromOf s) (commandOf (extended s) (codesOf s .one)) (codesOf s))
-    (choose (cleanup s) (Kind.Cleanup (fromOf s) (turnOf (codesOf s .one)) (codesOf s))
-    (Kind.Broadcast (fromOf s) (toOf s) (turnOf (codesOf s .one))))
+    choose (isDirect s) (MessageKind.Direct (requestOf s) (commandOf (isExtended s) (command1Of s)))
+    (choose (isCleanup s) (MessageKind.Cleanup (requestOf s) (groupCommandOf (command1Of s)))
+    (MessageKind.Broadcast (fromOf s) (toOf s) (groupCommandOf (command1Of s))))
+
+-- what a message is, whoever it is for; foreign where it is too short to tell
+unfoldable pub heardAs : List ℕ → MessageKind
+heardAs s = choose (ltb (length s) 9 || isUnheard s) MessageKind.Foreign (kindOf s)

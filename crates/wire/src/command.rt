@@ -1,19 +1,28 @@
-// What a message asks for, by its Command 1. Whether a module takes the command, and the Command 2 that came with it, is the module's to
-// say; what no row of the paper names is `Unlisted`.
+// What a message asks for, by its Command 1. Whether a module takes the command, and the Command 2 that came with it, is the
+// module's to say; what no row of the paper names is `Unlisted`.
 ghost use mathlib.Core.Path.{_≡_};
-ghost use Rattle.wire.specs.Commands.{standardOf, extendedOf, turnOf};
+ghost use Rattle.wire.specs.Commands.{standardOf, extendedOf, groupCommandOf};
 
-// Command 1 and Command 2 as they came: replies repeat them.
-pub struct Codes {
-    pub one: u8,
-    pub two: u8,
+// "Direct commands, standard": those that need no link, those that every module takes, and those to its load.
+pub enum Standard {
+    Open(OpenCommand),
+    Module(ModuleCommand),
+    Load(LoadCommand),
+    Unlisted,
 }
 
-// "Direct commands, standard".
-pub enum Standard {
+pub enum OpenCommand {
     Ping,
     IdRequest,
+}
+
+pub enum ModuleCommand {
     EngineVersion,
+    ReadFlags,
+    Beep,
+}
+
+pub enum LoadCommand {
     On,
     OnFast,
     Instant,
@@ -22,12 +31,9 @@ pub enum Standard {
     Brighten,
     Dim,
     Status,
-    ReadFlags,
     OnAtRamp,
     OffAtRamp,
-    Beep,
     Percent,
-    Unlisted,
 }
 
 // "Direct commands, extended".
@@ -45,40 +51,40 @@ pub enum Command {
 }
 
 // "Groups": what a broadcast or a cleanup tells its group.
-pub enum Turn {
+pub enum GroupCommand {
     On,
     Off,
     Unlisted,
 }
 
-pub fn read_standard(one: u8) -> Standard
-    ensures { λ r. ⌜ r ≡ standardOf one ⌝ }
+pub(crate) fn standard_of(command1: u8) -> Standard
+    ensures { λ r. ⌜ r ≡ standardOf command1 ⌝ }
 {
-    match one {
-        0x0f => Standard::Ping,
-        0x10 => Standard::IdRequest,
-        0x0d => Standard::EngineVersion,
-        0x11 => Standard::On,
-        0x12 => Standard::OnFast,
-        0x21 => Standard::Instant,
-        0x13 => Standard::Off,
-        0x14 => Standard::OffFast,
-        0x15 => Standard::Brighten,
-        0x16 => Standard::Dim,
-        0x19 => Standard::Status,
-        0x1f => Standard::ReadFlags,
-        0x2e => Standard::OnAtRamp,
-        0x2f => Standard::OffAtRamp,
-        0x30 => Standard::Beep,
-        0x39 => Standard::Percent,
+    match command1 {
+        0x0f => Standard::Open(OpenCommand::Ping),
+        0x10 => Standard::Open(OpenCommand::IdRequest),
+        0x0d => Standard::Module(ModuleCommand::EngineVersion),
+        0x11 => Standard::Load(LoadCommand::On),
+        0x12 => Standard::Load(LoadCommand::OnFast),
+        0x21 => Standard::Load(LoadCommand::Instant),
+        0x13 => Standard::Load(LoadCommand::Off),
+        0x14 => Standard::Load(LoadCommand::OffFast),
+        0x15 => Standard::Load(LoadCommand::Brighten),
+        0x16 => Standard::Load(LoadCommand::Dim),
+        0x19 => Standard::Load(LoadCommand::Status),
+        0x1f => Standard::Module(ModuleCommand::ReadFlags),
+        0x2e => Standard::Load(LoadCommand::OnAtRamp),
+        0x2f => Standard::Load(LoadCommand::OffAtRamp),
+        0x30 => Standard::Module(ModuleCommand::Beep),
+        0x39 => Standard::Load(LoadCommand::Percent),
         _ => Standard::Unlisted,
     }
 }
 
-pub fn read_extended(one: u8) -> Extended
-    ensures { λ r. ⌜ r ≡ extendedOf one ⌝ }
+pub(crate) fn extended_of(command1: u8) -> Extended
+    ensures { λ r. ⌜ r ≡ extendedOf command1 ⌝ }
 {
-    match one {
+    match command1 {
         0x20 => Extended::SetFlags,
         0x2e => Extended::Properties,
         0x2f => Extended::Database,
@@ -86,12 +92,12 @@ pub fn read_extended(one: u8) -> Extended
     }
 }
 
-pub fn read_turn(one: u8) -> Turn
-    ensures { λ r. ⌜ r ≡ turnOf one ⌝ }
+pub(crate) fn group_command_of(command1: u8) -> GroupCommand
+    ensures { λ r. ⌜ r ≡ groupCommandOf command1 ⌝ }
 {
-    match one {
-        0x11..=0x12 => Turn::On,
-        0x13..=0x14 => Turn::Off,
-        _ => Turn::Unlisted,
+    match command1 {
+        0x11..=0x12 => GroupCommand::On,
+        0x13..=0x14 => GroupCommand::Off,
+        _ => GroupCommand::Unlisted,
     }
 }

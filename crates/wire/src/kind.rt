@@ -1,23 +1,22 @@
 // The four kinds that a message is read into ("Message bytes").
 use crate::address::Address;
-use crate::command::Codes;
 use crate::command::Command;
-use crate::command::Turn;
+use crate::command::GroupCommand;
+use crate::request::Request;
 
-pub enum Kind {
-    // Its sender, what it asks for, and Commands 1 and 2.
-    Direct(Address, Command, Codes),
-    // Its sender, what it tells the group, and Commands 1 and 2; the group is Command 2.
-    Cleanup(Address, Turn, Codes),
+pub enum MessageKind {
+    Direct(Request, Command),
+    // The group is Command 2.
+    Cleanup(Request, GroupCommand),
     // From, To, and what it tells the group.
-    Broadcast(Address, Address, Turn),
+    Broadcast(Address, Address, GroupCommand),
     // None of our business: result 3.
     Foreign,
 }
 
 // What reading a message comes to.
 pub enum Reading {
-    Heard(Kind),
+    Heard(MessageKind),
     // Result 1.
     BadLength,
     // Result 4.

@@ -1,21 +1,21 @@
 // A message of any length, read once.
 use crate::address::Address;
-use crate::command::Codes;
 use crate::command::Command;
-use crate::command::read_extended;
-use crate::command::read_standard;
-use crate::command::read_turn;
-use crate::kind::Kind;
+use crate::command::extended_of;
+use crate::command::group_command_of;
+use crate::command::standard_of;
 use crate::kind::Message;
+use crate::kind::MessageKind;
 use crate::kind::Reading;
+use crate::request::Request;
 use crate::sum;
 ghost use mathlib.Core.Path.{_≡_};
 ghost use mathlib.Core.Bool.{true};
 ghost use Prim.Native.Nat.{_+_, _≤_};
 ghost use lib.ListN.{length};
-ghost use Rattle.wire.specs.Bytes.{addressAt, extended, whole, dataOf};
-ghost use Rattle.wire.specs.Kinds.{foreign, kindOf, commandOf};
-ghost use Rattle.wire.specs.Checksum.{sumWrong};
+ghost use Rattle.wire.specs.Bytes.{addressAt, requestOf, isExtended, isWhole, dataOf};
+ghost use Rattle.wire.specs.Kinds.{isUnheard, isAstray, isForeign, kindOf, heardAs, commandOf};
+ghost use Rattle.wire.specs.Checksum.{isSumWrong};
 ghost use Rattle.wire.specs.Reading.{readOf, bare};
 
 // A message that reached the module whose address is `own`, in the order of "Result numbers": 1, 3, 4, then its kind.
@@ -23,13 +23,13 @@ pub fn read(message: &[u8], own: Address) -> Message
     ensures { λ r. ⌜ r ≡ readOf (now (message .entry)) own ⌝ }
 {
     if !is_whole(message) {
-        return plain(Reading::BadLength);
+        return bare(Reading::BadLength);
     }
     if is_foreign(message, own) {
-        return plain(Reading::Heard(Kind::Foreign));
+        return bare(Reading::Heard(MessageKind::Foreign));
     }
     if is_sum_wrong(message) {
-        return plain(Reading::BadSum);
+        return bare(Reading::BadSum);
     }
     let kind = kind_of(message);
     let data = data_of(message);
@@ -39,8 +39,21 @@ pub fn read(message: &[u8], own: Address) -> Message
     }
 }
 
+// What a message is, whoever it is for and whatever its sum; foreign where it is of no kind that we hear, or too short to tell.
+pub fn heard_as(message: &[u8]) -> MessageKind
+    ensures { λ r. ⌜ r ≡ heardAs (now (message .entry)) ⌝ }
+{
+    if message.len() < 9 {
+        return MessageKind::Foreign;
+    }
+    if is_unheard(message) {
+        return MessageKind::Foreign;
+    }
+    kind_of(message)
+}
+
 // A reading with no data bytes beside it.
-fn plain(reading: Reading) -> Message
+fn bare(reading: Reading) -> Message
     ensures { λ r. ⌜ r ≡ bare reading ⌝ }
 {
     Message {
@@ -51,7 +64,7 @@ fn plain(reading: Reading) -> Message
 
 // Result 1 does not apply.
 fn is_whole(message: &[u8]) -> bool
-    ensures { λ r. ⌜ r ≡ whole (now (message .entry)) ⌝ }
+    ensures { λ r. ⌜ r ≡ isWhole (now (message .entry)) ⌝ }
 {
     match message.len() {
         9 => !is_extended(message),
@@ -62,7 +75,7 @@ fn is_whole(message: &[u8]) -> bool
 
 // Flags bit 4 is set; a message too short for flags is not extended.
 pub fn is_extended(message: &[u8]) -> bool
-    ensures { λ r. ⌜ r ≡ extended (now (message .entry)) ⌝ }
+    ensures { λ r. ⌜ r ≡ isExtended (now (message .entry)) ⌝ }
 {
     if message.len() < 7 {
         return false;
@@ -73,22 +86,38 @@ pub fn is_extended(message: &[u8]) -> bool
 // Result 3.
 fn is_foreign(message: &[u8], own: Address) -> bool
     requires { ⌜ 9 ≤ length (now message) ⌝ }
-    ensures { λ r. ⌜ r ≡ foreign (now (message .entry)) own ⌝ }
+    ensures { λ r. ⌜ r ≡ isForeign (now (message .entry)) own ⌝ }
+{
+    is_unheard(message) | is_astray(message, own)
+}
+
+// Of no kind that we hear: another type, or extended and not direct.
+fn is_unheard(message: &[u8]) -> bool
+    requires { ⌜ 9 ≤ length (now message) ⌝ }
+    ensures { λ r. ⌜ r ≡ isUnheard (now (message .entry)) ⌝ }
 {
     let kind = message[6] / 32;
     let direct = kind == 0;
     let cleanup = kind == 2;
     let broadcast = kind == 6;
-    let ours = address_at(message, 3).equals(own);
-    !(direct | cleanup | broadcast)
-        | (is_extended(message) & !direct)
-        | ((direct | cleanup) & !ours)
+    !(direct | cleanup | broadcast) | (is_extended(message) & !direct)
+}
+
+// Not addressed to us.
+fn is_astray(message: &[u8], own: Address) -> bool
+    requires { ⌜ 9 ≤ length (now message) ⌝ }
+    ensures { λ r. ⌜ r ≡ isAstray (now (message .entry)) own ⌝ }
+{
+    let kind = message[6] / 32;
+    let direct = kind == 0;
+    let cleanup = kind == 2;
+    (direct | cleanup) & !address_at(message, 3).equals(own)
 }
 
 // Result 4.
 fn is_sum_wrong(message: &[u8]) -> bool
-    requires { ⌜ whole (now message) ≡ true ⌝ }
-    ensures { λ r. ⌜ r ≡ sumWrong (now (message .entry)) ⌝ }
+    requires { ⌜ isWhole (now message) ≡ true ⌝ }
+    ensures { λ r. ⌜ r ≡ isSumWrong (now (message .entry)) ⌝ }
 {
     if message.len() != 23 {
         return false;
@@ -96,41 +125,53 @@ fn is_sum_wrong(message: &[u8]) -> bool
     if sum::is_exempt(message) {
         return false;
     }
-    !sum::is_right(message)
+    !sum::is_sum_right(message)
 }
 
 // The kind of a message that is not foreign.
-fn kind_of(message: &[u8]) -> Kind
+fn kind_of(message: &[u8]) -> MessageKind
     requires { ⌜ 9 ≤ length (now message) ⌝ }
     ensures { λ r. ⌜ r ≡ kindOf (now (message .entry)) ⌝ }
 {
-    let from = address_at(message, 0);
-    let one = message[7];
-    let codes = Codes {
-        one: one,
-        two: message[8],
-    };
+    let request = request_of(message);
+    let command1 = request.command1;
     match message[6] / 32 {
-        0 => Kind::Direct(from, command_of(is_extended(message), one), codes),
-        2 => Kind::Cleanup(from, read_turn(one), codes),
-        _ => Kind::Broadcast(from, address_at(message, 3), read_turn(one)),
+        0 => MessageKind::Direct(request, command_of(is_extended(message), command1)),
+        2 => MessageKind::Cleanup(request, group_command_of(command1)),
+        _ => MessageKind::Broadcast(
+            address_at(message, 0),
+            address_at(message, 3),
+            group_command_of(command1),
+        ),
+    }
+}
+
+fn request_of(message: &[u8]) -> Request
+    requires { ⌜ 9 ≤ length (now message) ⌝ }
+    ensures { λ r. ⌜ r ≡ requestOf (now (message .entry)) ⌝ }
+{
+    let from = address_at(message, 0);
+    Request {
+        from: from,
+        command1: message[7],
+        command2: message[8],
     }
 }
 
 // A direct command, by its length and Command 1.
-fn command_of(is_long: bool, one: u8) -> Command
-    ensures { λ r. ⌜ r ≡ commandOf «is_long» one ⌝ }
+fn command_of(is_long: bool, command1: u8) -> Command
+    ensures { λ r. ⌜ r ≡ commandOf «is_long» command1 ⌝ }
 {
     if is_long {
-        Command::Extended(read_extended(one))
+        Command::Extended(extended_of(command1))
     } else {
-        Command::Standard(read_standard(one))
+        Command::Standard(standard_of(command1))
     }
 }
 
 // Data 1 to Data 14.
 fn data_of(message: &[u8]) -> [u8; 14]
-    requires { ⌜ whole (now message) ≡ true ⌝ }
+    requires { ⌜ isWhole (now message) ≡ true ⌝ }
     ensures { λ r. ⌜ r ≡ dataOf (now (message .entry)) ⌝ }
 {
     if message.len() != 23 {

@@ -1,12 +1,12 @@
 // The checksum of an extended message, as the notes work it: complement the column's sum, and add one.
 ghost use mathlib.Core.Path.{_≡_};
 ghost use lib.ListN.{length};
-ghost use Rattle.wire.specs.Checksum.{sums, exempt};
+ghost use Rattle.wire.specs.Checksum.{isSumRight, isExempt};
 
 // Whether Data 14 is what the column from Command 1 through Data 13 asks for.
-pub(crate) fn is_right(message: &[u8]) -> bool
+pub(crate) fn is_sum_right(message: &[u8]) -> bool
     requires { ⌜ length (now message) ≡ 23 ⌝ }
-    ensures { λ r. ⌜ r ≡ sums (now (message .entry)) ⌝ }
+    ensures { λ r. ⌜ r ≡ isSumRight (now (message .entry)) ⌝ }
 {
     let mut sum: usize = 0;
     for i in 7..22 {
@@ -19,8 +19,8 @@ pub(crate) fn is_right(message: &[u8]) -> bool
 // Get Properties and Get Database, which the captures send with 00 for a checksum.
 pub(crate) fn is_exempt(message: &[u8]) -> bool
     requires { ⌜ length (now message) ≡ 23 ⌝ }
-    ensures { λ r. ⌜ r ≡ exempt (now (message .entry)) ⌝ }
+    ensures { λ r. ⌜ r ≡ isExempt (now (message .entry)) ⌝ }
 {
-    let one = message[7];
-    ((one == 0x2e) | (one == 0x2f)) & (message[10] == 0)
+    let command1 = message[7];
+    ((command1 == 0x2e) | (command1 == 0x2f)) & (message[10] == 0)
 }

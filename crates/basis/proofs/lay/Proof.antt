@@ -7,7 +7,7 @@ use lib.ListN.{length, take, drop, length-set}
 use lib.Seq.{take-all}
 use borrow.Author.Tests.{lt-ltb}
 use Rattle.basis.specs.Choice.{choose}
-use Rattle.basis.specs.Laid.{laidIn}
+use Rattle.basis.specs.Laid.{laidIfFits}
 use Rattle.basis.proofs.Laid.{fits, copied}
 use Rattle.basis.proofs.lay.Statement.{statement}
 use Rattle.basis.proofs.lay.Tie as tie
@@ -19,7 +19,7 @@ abbrev μ-loop : tie.MeasureT-loop
 μ-loop room₀ bytes i₀ room i = length bytes - i
 
 returns : tie.Need-returns Inv-loop μ-loop
-unfolding laidIn choose
+unfolding laidIfFits choose
 returns c =
     let g = c .before .args in
     rw (lt-ltb (length (g .room .now)) (length (g .bytes .now)) (omega arith))

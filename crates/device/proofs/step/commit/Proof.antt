@@ -1,35 +1,12 @@
--- The bytes that a write names are lent from among the data bytes.
-use Prim.Native.Nat.{ℕ, _+_, _-_}
-use mathlib.Core.Path.{_≡_, sym}
-use native.Mathlib.Omega.{arith}
-use lib.ListN.{take, drop, length-take, length-drop}
-use borrow.Kind.Array.{eInt, good-length}
-use mir.Syntax.{w8}
-use Rattle.links.proofs.Written.{too-many}
 use borrow.Author.Needs.{needs}
 use Rattle.device.proofs.step.commit.Statement.{statement}
 use Rattle.device.proofs.step.commit.Tie as tie
-
-some : (n : ℕ) → 5 + n - 5 ≡ n
-some n = omega arith
 
 pub commit-spec : {M : Type 1} → statement M
 commit-spec =
     tie.close
     (tie.spec
-    (λ c. search needs)
-    (λ c. search needs)
-    (λ c. search needs)
-    (λ c. search needs)
-    (λ c. search needs)
-    (λ c. search needs)
+    (λ c κs. search needs)
     (λ c κs. search needs)
     (λ c. search needs)
-    (λ c. search needs)
-    (λ c. rw (c .before .before .before .before .before .before .before .before .w .given .1) (rw (some (c .before .before .before .before .before .before .before .before .w .given .0 .1 .0)) at (c .before .before .write .ensures)))
-    (λ c.
-    let s = c .before .before .before .before .before in
-    let w = c .before .before .w .given in
-    let d = s .args .t2 in
-    rw (w .1)
-    (sym (too-many (s .args .links .now) (w .0 .0) (take (w .0 .1 .0) (drop 5 d)) (simp (length-take, length-drop) (omega (arith, good-length (eInt w8) 14 d _ (s .good .1 .0))))))))
+    (λ c. (c .apply .ensures, c .before .before .before .write-change .ensures)))

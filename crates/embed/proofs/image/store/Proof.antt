@@ -25,5 +25,5 @@ store-spec =
     (λ c.
     let g = c .before .args in
     let m = g .m in
-    let p = m .properties in
-    ap (λ (s : List ℕ). set (set (set (set (set (set (set (set s 7 (m .level)) 8 (m .flags)) 9 (p .ramp)) 10 (p .«on_level»)) 11 (p .led)) 12 (p .house)) 13 (p .unit)) 14 (m .delta)) (sym (spelled 15 (g .image .now) (c .before .pre)))))
+    let lamp = m .load in
+    ap (λ (s : List ℕ). set (set (set (set (set (set (set (set s 7 (lamp .level)) 8 (m .flags)) 9 (lamp .ramp)) 10 (lamp .«on_level»)) 11 (m .led)) 12 (m .house)) 13 (m .unit)) 14 (m .delta)) (sym (spelled 15 (g .image .now) (c .before .pre)))))

@@ -8,9 +8,9 @@ use lib.ListN.{length}
 use borrow.Author.Needs.{needs}
 use Rattle.basis.specs.First.{firstFrom}
 use Rattle.basis.proofs.First.{none, here, later}
-use Rattle.links.specs.Record.{recordAt, endMark}
+use Rattle.links.specs.Record.{recordAt, isEndMark}
 use Rattle.links.specs.Search.{matches, settlesAt, stopOf}
-use Rattle.links.proofs.Stop.{at-memory, at-end, at-match}
+use Rattle.links.proofs.Stop.{at-memory-end, at-end-mark, at-match}
 use Rattle.links.proofs.search.walk.Statement.{statement}
 use Rattle.links.proofs.search.walk.Tie as tie
 
@@ -30,8 +30,8 @@ loop-again c =
     let i = c .before .before .before .before .before .before .loop .i in
     let l = g .links .now in
     let q = c .before .before .before .before .record-at .ensures in
-    let e : endMark (recordAt l i) ≡ false = sym (rw q at (c .before .before .before .is-end .ensures)) ∙ c .before .before .if2 .left in
-    let f : matches (g .wanted) (recordAt l i) ≡ false = sym (rw q at (c .before .is-match .ensures)) ∙ c .if3 .left in
+    let e : isEndMark (recordAt l i) ≡ false = sym (rw q at (c .before .before .before .is-end-mark .ensures)) ∙ c .before .before .if2 .left in
+    let f : matches (g .wanted) (recordAt l i) ≡ false = sym (rw q at (c .before .matches .ensures)) ∙ c .if3 .left in
     let unsettled : settlesAt l (g .wanted) i ≡ false = rw (e, f) in
     let p : length l / 8 - (i + 1) ≡ pred (length l / 8 - i) = omega arith in
     (omega arith, rw p (sym (later (settlesAt l (g .wanted)) _ i (omega arith) unsettled) ∙ c .before .before .before .before .before .before .loop .inv .1))
@@ -43,17 +43,17 @@ returns c =
     let i = c .before .loop .i in
     let p : length l / 8 - i ≡ 0 = omega arith in
     let stop : i ≡ stopOf l (g .wanted) = sym (none (settlesAt l (g .wanted)) i) ∙ rw p at (c .before .loop .inv .1) in
-    sym (rw (← stop) (at-memory l i (omega arith)))
+    sym (rw (← stop) (at-memory-end l i (omega arith)))
 
 returns-2 : tie.Need-returns-2 Inv-loop μ-loop
 returns-2 c =
     let g = c .before .before .before .before .before .before .args in
     let l = g .links .now in
     let i = c .before .before .before .before .loop .i in
-    let e : endMark (recordAt l i) ≡ true = sym (rw (c .before .before .record-at .ensures) at (c .before .is-end .ensures)) ∙ c .if2 .taken in
+    let e : isEndMark (recordAt l i) ≡ true = sym (rw (c .before .before .record-at .ensures) at (c .before .is-end-mark .ensures)) ∙ c .if2 .taken in
     let settled : settlesAt l (g .wanted) i ≡ true = rw e in
     let stop : i ≡ stopOf l (g .wanted) = sym (here (settlesAt l (g .wanted)) _ i (omega arith) settled) ∙ c .before .before .before .before .loop .inv .1 in
-    sym (rw (← stop) (at-end l i (omega arith) e))
+    sym (rw (← stop) (at-end-mark l i (omega arith) e))
 
 returns-3 : tie.Need-returns-3 Inv-loop μ-loop
 returns-3 c =
@@ -61,8 +61,8 @@ returns-3 c =
     let l = g .links .now in
     let i = c .before .before .before .before .before .before .before .loop .i in
     let q = c .before .before .before .before .before .record-at .ensures in
-    let e : endMark (recordAt l i) ≡ false = sym (rw q at (c .before .before .before .before .is-end .ensures)) ∙ c .before .before .before .if2 .left in
-    let f : matches (g .wanted) (recordAt l i) ≡ true = sym (rw q at (c .before .before .is-match .ensures)) ∙ c .before .if3 .taken in
+    let e : isEndMark (recordAt l i) ≡ false = sym (rw q at (c .before .before .before .before .is-end-mark .ensures)) ∙ c .before .before .before .if2 .left in
+    let f : matches (g .wanted) (recordAt l i) ≡ true = sym (rw q at (c .before .before .matches .ensures)) ∙ c .before .if3 .taken in
     let settled : settlesAt l (g .wanted) i ≡ true = rw (e, f) in
     let stop : i ≡ stopOf l (g .wanted) = sym (here (settlesAt l (g .wanted)) _ i (omega arith) settled) ∙ c .before .before .before .before .before .before .before .loop .inv .1 in
     rw (c .link-of .ensures, q) (sym (rw (← stop) (at-match l i (omega arith) e)))
@@ -78,8 +78,8 @@ walk-spec =
     (λ c κs. search needs)
     (λ c. omega arith)
     (λ c κs. search needs)
-    (λ c. omega arith)
     (λ c κs. search needs)
+    (λ c. omega arith)
     (λ c. omega arith)
     (λ c. omega arith)
     loop-again

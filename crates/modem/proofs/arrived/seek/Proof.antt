@@ -10,13 +10,13 @@ seek-spec =
     tie.close
     (tie.spec
     (λ c κs. search needs)
-    (λ c κs. rw (c .place .ensures) (inside _))
-    (λ c. rw (c .before .place .ensures) (inside _))
+    (λ c κs. rw (c .frame-start .ensures) (inside _))
+    (λ c. rw (c .before .frame-start .ensures) (inside _))
     (λ c.
     let s = c .before .before .before .before .args .s .now in
-    let k = c .before .before .place .result in
-    rw (← c .before .before .place .ensures, c .before .size-at .ensures) (sym (whole s k (omega (arith, c .if1 .taken, c .before .size-at .ensures, inside s, c .before .before .place .ensures)))))
+    let k = c .before .before .frame-start .result in
+    rw (← c .before .before .frame-start .ensures, c .before .size-at .ensures) (sym (whole s k (omega (arith, c .if1 .taken, c .before .size-at .ensures, inside s, c .before .before .frame-start .ensures)))))
     (λ c.
     let s = c .before .before .before .before .args .s .now in
-    let k = c .before .before .place .result in
-    rw (← c .before .before .place .ensures) (sym (cut s k (omega (arith, c .if1 .left, c .before .size-at .ensures))))))
+    let k = c .before .before .frame-start .result in
+    rw (← c .before .before .frame-start .ensures) (sym (cut s k (omega (arith, c .if1 .left, c .before .size-at .ensures))))))

@@ -12,5 +12,5 @@ message-size-spec =
     (λ c κs. search needs)
     (λ c κs. search needs)
     (λ c κs. search needs)
-    (λ c. rw (c .least .ensures, sym (c .before .before .is-extended .ensures) ∙ c .before .if1 .taken))
-    (λ c. rw (c .least2 .ensures, sym (c .before .before .is-extended .ensures) ∙ c .before .if1 .left)))
+    (λ c. rw (c .min .ensures, sym (c .before .before .is-extended .ensures) ∙ c .before .if1 .taken))
+    (λ c. rw (c .min2 .ensures, sym (c .before .before .is-extended .ensures) ∙ c .before .if1 .left)))

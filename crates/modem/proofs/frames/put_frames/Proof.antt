@@ -1,5 +1,5 @@
 -- The frames of what is left of the reply, behind those that are laid, are all its frames.
-use Prim.Native.Nat.{ℕ, _≤_, _-_, _+_}
+use Prim.Native.Nat.{ℕ, _≤_, _<_, _-_, _+_}
 use mathlib.Core.Path.{_≡_, refl, sym, _∙_, ap}
 use mathlib.Core.List.{List, [], _++_}
 use native.Mathlib.Nat.{zero-add}
@@ -23,22 +23,57 @@ Inv-loop out₀ reply at₀ to₀ out at to =
 abbrev μ-loop : tie.MeasureT-loop
 μ-loop out₀ reply at₀ to₀ out at to = length reply - at
 
+-- where a message of the reply was measured: the reply, the message's place in it and its size, and the frames' room at the start
+abbrev Sized : Type 0
+Sized = tie.After-message-size Inv-loop μ-loop
+
+abbrev reply-at : Sized → List ℕ
+reply-at p = p .before .before .before .before .before .before .args .reply .now
+
+abbrev out-at : Sized → List ℕ
+out-at p = p .before .before .before .before .before .before .args .out .now
+
+abbrev place-at : Sized → ℕ
+place-at p = p .before .before .before .loop .at
+
+abbrev size-at : Sized → ℕ
+size-at p = p .message-size .result
+
+lies : (p : Sized) → place-at p + size-at p ≤ length (reply-at p)
+lies p = inside (reply-at p) (place-at p) _ (omega arith) (p .message-size .ensures)
+
+goes-on : (p : Sized) → 0 < size-at p
+goes-on p = onward (reply-at p) (place-at p) _ (omega arith) (p .message-size .ensures)
+
+frame-is : (p : Sized) → length (frameOf (midOf (place-at p) (place-at p + size-at p - place-at p) (reply-at p))) ≡ 2 + size-at p
+frame-is p = size (reply-at p) (place-at p) _ (omega arith) (p .message-size .ensures)
+
+frames-are : (p : Sized) → length (framed (drop (place-at p) (reply-at p))) ≡ 2 + size-at p + length (framed (drop (place-at p + size-at p) (reply-at p)))
+frames-are p = longer (reply-at p) (place-at p) _ (omega arith) (p .message-size .ensures)
+
+ample : (p : Sized) → length (framed (reply-at p)) ≤ length (out-at p)
+ample p = omega (arith, p .before .before .before .before .before .before .pre, twice (reply-at p))
+
 loop-again : tie.Need-loop-again Inv-loop μ-loop
 loop-again c =
-    let t = c .before .before .before .before .before .before .before .before .loop in
-    let g = c .before .before .before .before .before .before .before .before .before .before .before in
-    let s = g .args .reply .now in
-    let n = c .before .before .before .before .before .message-size .result in
-    let e = c .before .before .before .before .before .message-size .ensures in
+    let p = c .before .before .before .before .before in
+    let t = p .before .before .before .loop in
+    let s = reply-at p in
+    let n = size-at p in
     let m : List ℕ = frameOf (midOf (t .at) (t .at + n - t .at) s) in
-    let z : t .to + (2 + n) ≡ t .to + length m = ap (λ (k : ℕ). t .to + k) (sym (size s (t .at) n (omega arith) e)) in
-    let w : framed (drop (t .at) s) ≡ m ++ framed (drop (t .at + n) s) = split s (t .at) n (omega arith) e in
-    let l = longer s (t .at) n (omega arith) e in (
-      inside s (t .at) n (omega arith) e,
-      omega arith,
-      omega (arith, l, t .inv .2),
-      rw z (turn (t .to) (t .out) _ m (framed (drop (t .at + n) s)) (omega (arith, l, z, t .inv .2, g .pre, twice s)) (c .before .before .put-frame .ensures)) ∙ ap (λ (v : List ℕ). take (t .to) (t .out) ++ laid v (drop (t .to) (t .out))) (sym w) ∙ t .inv .3,
-    )
+    let later : List ℕ = framed (drop (t .at + n) s) in
+    let z : t .to + (2 + n) ≡ t .to + length m = ap (λ (k : ℕ). t .to + k) (sym (frame-is p)) in
+    let w : framed (drop (t .at) s) ≡ m ++ later = split s (t .at) n (omega arith) (p .message-size .ensures) in
+    let fits : t .to + length m ≤ length (t .out) = omega (arith, frames-are p, z, t .inv .2, ample p) in
+    let laid-on = turn (t .to) (t .out) _ m later fits (c .before .before .put-frame .ensures) in
+    let whole = ap (λ (v : List ℕ). take (t .to) (t .out) ++ laid v (drop (t .to) (t .out))) (sym w) in
+    (lies p, omega arith, omega (arith, frames-are p, t .inv .2), rw z laid-on ∙ whole ∙ t .inv .3)
+
+put-frame-requires : tie.Need-put-frame-requires Inv-loop μ-loop
+put-frame-requires c κs =
+    let p = c .before .before in
+    let t = p .before .before .before .loop in
+    omega (arith, ample p, frame-is p, frames-are p, lent (t .to) (t .out))
 
 returns : tie.Need-returns Inv-loop μ-loop
 returns c =
@@ -47,7 +82,8 @@ returns c =
     let s = g .args .reply .now in
     let w : framed (drop (t .at) s) ≡ [] = none _ (drop (t .at) s) (length-drop (t .at) s ∙ omega arith) in
     let z : length (framed (drop (t .at) s)) ≡ 0 = ap length w in
-    (omega (arith, z, t .inv .2), sym (take-append-drop (t .to) (t .out)) ∙ ap (λ (v : List ℕ). take (t .to) (t .out) ++ laid v (drop (t .to) (t .out))) (sym w) ∙ t .inv .3)
+    let whole = ap (λ (v : List ℕ). take (t .to) (t .out) ++ laid v (drop (t .to) (t .out))) (sym w) in
+    (omega (arith, z, t .inv .2), sym (take-append-drop (t .to) (t .out)) ∙ whole ∙ t .inv .3)
 
 pub put-frames-spec : {M : Type 1} → statement M
 put-frames-spec =
@@ -60,35 +96,17 @@ put-frames-spec =
     (λ c. omega arith)
     (λ c. omega arith)
     (λ c κs. tt)
-    (λ c. let t = c .before .before .before .loop in
-    let g = c .before .before .before .before .before .before in
-    omega (arith, inside (g .args .reply .now) (t .at) _ (omega arith) (c .message-size .ensures)))
-    (λ c. let t = c .before .before .before .loop in
-    let g = c .before .before .before .before .before .before in
-    omega (arith, g .pre, twice (g .args .reply .now)))
-    (λ c. let t = c .before .before .before .loop in
-    let g = c .before .before .before .before .before .before in
-    omega (arith, g .pre, twice (g .args .reply .now)))
-    (λ c. let t = c .before .before .before .loop in
-    let g = c .before .before .before .before .before .before in
-    omega (arith, g .pre, twice (g .args .reply .now)))
+    (λ c. omega (arith, lies c))
+    (λ c. omega (arith, ample c))
+    (λ c. omega (arith, ample c))
+    (λ c. omega (arith, ample c))
     (λ c. omega arith)
     (λ c. omega arith)
-    (λ c. let t = c .before .before .before .before .loop in
-    let g = c .before .before .before .before .before .before .before in
-    omega (arith, inside (g .args .reply .now) (t .at) _ (omega arith) (c .before .message-size .ensures)))
-    (λ c κs. let t = c .before .before .before .before .before .loop in
-    let g = c .before .before .before .before .before .before .before .before in
-    omega (arith, g .pre, twice (g .args .reply .now), size (g .args .reply .now) (t .at) _ (omega arith) (c .before .before .message-size .ensures), longer (g .args .reply .now) (t .at) _ (omega arith) (c .before .before .message-size .ensures), lent (t .to) (t .out)))
-    (λ c. let t = c .before .before .before .before .before .before .before .before .loop in
-    let g = c .before .before .before .before .before .before .before .before .before .before .before in
-    omega (arith, inside (g .args .reply .now) (t .at) _ (omega arith) (c .before .before .before .before .before .message-size .ensures)))
-    (λ c. let t = c .before .before .before .before .before .before .before .before .loop in
-    let g = c .before .before .before .before .before .before .before .before .before .before .before in
-    omega (arith, g .pre, twice (g .args .reply .now), longer (g .args .reply .now) (t .at) _ (omega arith) (c .before .before .before .before .before .message-size .ensures)))
-    (λ c. let t = c .before .before .before .before .before .before .before .before .loop in
-    let g = c .before .before .before .before .before .before .before .before .before .before .before in
-    omega (arith, inside (g .args .reply .now) (t .at) _ (omega arith) (c .before .before .before .before .before .message-size .ensures), onward (g .args .reply .now) (t .at) _ (omega arith) (c .before .before .before .before .before .message-size .ensures)))
+    (λ c. omega (arith, lies (c .before)))
+    put-frame-requires
+    (λ c. omega (arith, lies (c .before .before .before .before .before)))
+    (λ c. omega (arith, frames-are (c .before .before .before .before .before), ample (c .before .before .before .before .before)))
+    (λ c. omega (arith, lies (c .before .before .before .before .before), goes-on (c .before .before .before .before .before)))
     loop-again
     (λ c. c .before .loop .inv .1)
     returns)

@@ -11,7 +11,7 @@ returns c =
     let s = c .before .before .before .before .before .before .before in
     let d = s .args .t5 in
     rw (sym (spelled 14 d (good-length (eInt w8) 14 d _ (s .good .1 .1 .1 .1 .0))))
-    (rw (c .before .before .before .before .before .flags-of .ensures) at (c .before .before .lay .ensures))
+    (rw (c .before .before .before .before .before .reply-flags .ensures) at (c .before .before .lay .ensures))
 
 pub put-extended-spec : {M : Type 1} → statement M
 put-extended-spec =

@@ -10,4 +10,4 @@ put-standard-spec =
     (λ c. search needs)
     (λ c κs. search needs)
     (λ c. search needs)
-    (λ c. rw (c .before .before .before .before .before .flags-of .ensures) at (c .before .before .lay .ensures)))
+    (λ c. rw (c .before .before .before .before .before .reply-flags .ensures) at (c .before .before .lay .ensures)))

@@ -29,8 +29,8 @@ loop-again c =
     let g = c .before .before .before .before .before .before .args in
     let i = c .before .before .before .before .loop .i in
     let l = g .links .now in
-    let q = c .before .before .take-record .ensures ∙ taken l (g .k + i) (omega arith) in
-    let e : markAt l (g .k + i) ≡ false = sym (rw q at (c .before .is-end .ensures)) ∙ c .if2 .left in
+    let q = c .before .before .record-or-blank .ensures ∙ taken l (g .k + i) (omega arith) in
+    let e : markAt l (g .k + i) ≡ false = sym (rw q at (c .before .is-end-mark .ensures)) ∙ c .if2 .left in
     let p : g .n - (i + 1) ≡ pred (g .n - i) = omega arith in
     let s : g .k + (i + 1) ≡ g .k + i + 1 = omega arith in
     (omega arith, rw (p, s) (sym (later (markAt l) (g .n - i) (g .k + i) (omega arith) e) ∙ c .before .before .before .before .loop .inv .1))
@@ -49,8 +49,8 @@ returns-2 c =
     let g = c .before .before .before .before .before .before .args in
     let i = c .before .before .before .before .loop .i in
     let l = g .links .now in
-    let q = c .before .before .take-record .ensures ∙ taken l (g .k + i) (omega arith) in
-    let e : markAt l (g .k + i) ≡ true = sym (rw q at (c .before .is-end .ensures)) ∙ c .if2 .taken in
+    let q = c .before .before .record-or-blank .ensures ∙ taken l (g .k + i) (omega arith) in
+    let e : markAt l (g .k + i) ≡ true = sym (rw q at (c .before .is-end-mark .ensures)) ∙ c .if2 .taken in
     let m : g .k + i ≡ firstFrom (markAt l) (g .n) (g .k) = sym (here (markAt l) (g .n - i) (g .k + i) (omega arith) e) ∙ c .before .before .before .before .loop .inv .1 in
     stops l (g .n) (g .k) (i + 1) (g .k + i) (sym m) (omega arith)
 

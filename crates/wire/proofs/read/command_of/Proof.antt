@@ -10,5 +10,5 @@ command-of-spec =
     (tie.spec
     (λ c κs. search needs)
     (λ c κs. search needs)
-    (λ c. rw (c .before .if1 .taken, c .read-extended .ensures))
-    (λ c. rw (c .before .if1 .left, c .read-standard .ensures)))
+    (λ c. rw (c .before .if1 .taken, c .extended-of .ensures))
+    (λ c. rw (c .before .if1 .left, c .standard-of .ensures)))

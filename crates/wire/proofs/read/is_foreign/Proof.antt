@@ -6,8 +6,6 @@ pub is-foreign-spec : {M : Type 1} → statement M
 is-foreign-spec =
     tie.close
     (tie.spec
-    (λ c. search needs)
     (λ c κs. search needs)
     (λ c κs. search needs)
-    (λ c κs. search needs)
-    (λ c. rw (c .is-extended .ensures, c .before .equals .ensures, c .before .before .address-at .ensures)))
+    (λ c. rw (c .is-astray .ensures, c .before .is-unheard .ensures)))

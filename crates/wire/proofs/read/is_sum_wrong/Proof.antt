@@ -19,7 +19,7 @@ returns-2 c =
 returns-3 : tie.Need-returns-3
 returns-3 c =
     let s = c .before .before .before .before .before .args .message .now in
-    rw (c .is-right .ensures, by-length s (c .before .before .before .before .before .pre), eq-eqb (length s) 23 (c .before .before .before .if1 .left), sym (c .before .before .is-exempt .ensures) ∙ c .before .if2 .left)
+    rw (c .is-sum-right .ensures, by-length s (c .before .before .before .before .before .pre), eq-eqb (length s) 23 (c .before .before .before .if1 .left), sym (c .before .before .is-exempt .ensures) ∙ c .before .if2 .left)
 
 pub is-sum-wrong-spec : {M : Type 1} → statement M
 is-sum-wrong-spec =

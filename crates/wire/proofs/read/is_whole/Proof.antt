@@ -6,7 +6,7 @@ use lib.Dec.{eqb}
 use borrow.Author.Needs.{needs}
 use borrow.Author.Tests.{ne-eqb}
 use Rattle.basis.specs.Choice.{choose}
-use Rattle.wire.specs.Bytes.{extended}
+use Rattle.wire.specs.Bytes.{isExtended}
 use Rattle.wire.proofs.read.is_whole.Statement.{statement}
 use Rattle.wire.proofs.read.is_whole.Tie as tie
 
@@ -33,4 +33,4 @@ is-whole-spec =
     (λ c κs. search needs)
     (λ c. rw (c .is-extended .ensures, c .before .match .keys1) (nine _))
     (λ c. rw (c .is-extended2 .ensures, c .before .match .keys2) (long _))
-    (λ c. other _ (extended (c .before .before .args .message .now)) (c .match .rest .0 .1) (c .match .rest .1)))
+    (λ c. other _ (isExtended (c .before .before .args .message .now)) (c .match .rest .0 .1) (c .match .rest .1)))

@@ -1,0 +1,2 @@
+-- Laws of what is decided.
+pub mod Sender

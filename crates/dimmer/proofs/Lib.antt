@@ -1,4 +1,0 @@
--- Laws of plans.
-pub mod Shape
-pub mod Sender
-pub mod Lasting

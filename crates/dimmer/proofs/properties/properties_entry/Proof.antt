@@ -1,0 +1,15 @@
+use borrow.Author.Tests.{eq-eqb, ne-eqb}
+use Rattle.basis.specs.Choice.{choose}
+use Rattle.dimmer.specs.Properties.{propertiesEntry}
+use borrow.Author.Needs.{needs}
+use Rattle.dimmer.proofs.properties.properties_entry.Statement.{statement}
+use Rattle.dimmer.proofs.properties.properties_entry.Tie as tie
+
+pub properties-entry-spec : {M : Type 1} → statement M
+unfolding propertiesEntry choose
+properties-entry-spec =
+    tie.close
+    (tie.spec
+    (λ c κs. search needs)
+    (λ c. rw (eq-eqb _ 0x00 (c .before .if1 .taken)) (c .property-entry .ensures))
+    (λ c. rw (ne-eqb _ 0x00 (c .if1 .left))))

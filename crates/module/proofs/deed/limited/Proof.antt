@@ -1,0 +1,15 @@
+use mathlib.Core.Path.{sym, _∙_}
+use Rattle.basis.specs.Choice.{choose}
+use Rattle.module.specs.Deed.{limited}
+use borrow.Author.Needs.{needs}
+use Rattle.module.proofs.deed.limited.Statement.{statement}
+use Rattle.module.proofs.deed.limited.Tie as tie
+
+pub limited-spec : {M : Type 1} → statement M
+unfolding limited choose
+limited-spec =
+    tie.close
+    (tie.spec
+    (λ c κs. search needs)
+    (λ c. rw (c .before .if1 .taken) (c .acked .ensures))
+    (λ c. rw (c .if1 .left)))

@@ -1,0 +1,190 @@
+-- The rows that every kind has: a legal command brings its effect about, and any other is not listed.
+use Prim.Native.Nat.{ℕ, _+_, _*_, _/_, _%_, _≤_, _<_}
+use mathlib.Core.Path.{_≡_, refl, sym, _∙_, ap}
+use mathlib.Core.Bool.{Bool, true, false}
+use mathlib.Core.List.{List}
+use native.Mathlib.Omega.{arith}
+use lib.Dec.{eqb, leb}
+use lib.ListN.{length, take, drop, length-take}
+use lib.Seq.{drop-drop}
+use borrow.Author.Tests.{le-leb, eq-eqb, ne-eqb, eqb-true, eqb-false, leb-true}
+use Rattle.basis.specs.Choice.{choose}
+use Rattle.basis.specs.Flags.{flagged}
+use Rattle.basis.specs.Numbers.{within}
+use Rattle.basis.proofs.Tests.{both}
+use Rattle.basis.proofs.Choice.{by}
+use Rattle.basis.proofs.Spelled.{spelled-from}
+use Rattle.wire.specs.declared.command.Standard.{Standard}
+use Rattle.wire.specs.declared.command.Extended.{Extended}
+use Rattle.wire.specs.declared.command.Command.{Command}
+use Rattle.wire.specs.Bytes.{command1Of, command2Of, requestOf, dataAt, dataOf, isExtended, isWhole}
+use Rattle.wire.specs.Commands.{standards, extendeds, standardOf, extendedOf}
+use Rattle.wire.proofs.Whole.{by-length}
+use Rattle.links.specs.declared.name.Place.{Place}
+use Rattle.links.specs.Record.{records}
+use Rattle.links.specs.Name.{placeOf}
+use Rattle.links.specs.Write.{written, writtenIfThere}
+use Rattle.links.proofs.Named
+use Rattle.links.proofs.Written
+use Rattle.module.specs.declared.state.Module.{Module}
+use Rattle.module.specs.declared.change.Change.{Change}
+use Rattle.module.specs.declared.deed.Deed.{Deed}
+use Rattle.module.specs.Deed.{acked, limited}
+use Rattle.module.specs.Plan.{deedPlan}
+use Rattle.shared.specs.Standard.{flagsTold, standardDeed}
+use Rattle.shared.specs.Extended.{flagsDeed, propertyDeed, propertiesDeed, getDeed, setDeed, recordDeed, databaseDeed, extendedDeed}
+use Rattle.shared.specs.Table.{sharedDeed}
+use Rattle.promises.specs.Legal.{Effect, Short, Shared, ping, id-request, engine-version, flags, delta, beep, set-flag, clear-flag, set-x10, set-led, get-database, set-database}
+use Rattle.promises.proofs.Ruled.{commandIn}
+use Rattle.promises.proofs.Brings.{Brings, short-command, long-command}
+
+module _ (m : Module) (l s : List ℕ) where
+  abbrev deed : Command → Deed
+  deed command = sharedDeed m (requestOf s) (dataOf s) (records l) command
+
+  abbrev address : ℕ
+  address = dataAt s 3 * 256 + dataAt s 4
+
+  module _ (w : isWhole s ≡ true) where
+    names-record : (k : ℕ) → (k < records l) × (address + 8 * k ≡ 0x0fff) → placeOf (records l) address ≡ Place.Record k
+    names-record k y = Named.legal (records l) address k (y .0) (y .1)
+
+    -- an extended message's data bytes are those from place 9 on
+    data-bytes : isExtended s ≡ true → drop 5 (dataOf s) ≡ drop 14 s
+    data-bytes x =
+        let long : length s ≡ 23 = eqb-true (length s) 23 (sym (by-length s w) ∙ x) in
+        ap (λ (d : List ℕ). drop 5 d) (spelled-from 14 9 s (omega arith)) ∙ drop-drop 5 9 s
+
+    write-there : (k : ℕ) → isExtended s ≡ true → k < records l → dataAt s 5 ≤ 8 → writtenIfThere l k (take (dataAt s 5) (drop 5 (dataOf s))) ≡ written l k (take (dataAt s 5) (drop 14 s))
+    write-there k x y z =
+        ap (λ (b : List ℕ). writtenIfThere l k (take (dataAt s 5) b)) (data-bytes x)
+        ∙ Written.legal l k (take (dataAt s 5) (drop 14 s)) y (rw length-take (omega arith))
+
+    pub shared-brings : (e : Effect) → Shared m l s e → Brings m l s e (deedPlan m (requestOf s) (deed (commandIn s)))
+    unfolding standards extendeds choose flagsTold limited propertyDeed propertiesDeed recordDeed databaseDeed flagged
+    shared-brings e (ping x) = rw (short-command s 0x0f x) (record { done = refl; next = refl; links = refl; reply = refl })
+    shared-brings e (id-request x) = rw (short-command s 0x10 x) (record { done = refl; next = refl; links = refl; reply = refl })
+    shared-brings e (engine-version x) = rw (short-command s 0x0d x) (record { done = refl; next = refl; links = refl; reply = refl })
+    shared-brings e (flags x y) = rw (short-command s 0x1f x, y) (record { done = refl; next = refl; links = refl; reply = refl })
+    shared-brings e (delta x y) = rw (short-command s 0x1f x, y) (record { done = refl; next = refl; links = refl; reply = refl })
+    shared-brings e (beep x) = rw (short-command s 0x30 x) (record { done = refl; next = refl; links = refl; reply = refl })
+    shared-brings e (set-flag x b y z) =
+        let t = command2Of s in
+        let half : t / 2 ≡ b = omega arith in
+        rw (long-command s 0x20 x, le-leb 0x00 t (omega arith), le-leb t 0x0f (omega arith), eq-eqb (t % 2) 0 (omega arith), half) (record { done = refl; next = refl; links = refl; reply = refl })
+    shared-brings e (clear-flag x b y z) =
+        let t = command2Of s in
+        let half : t / 2 ≡ b = omega arith in
+        rw (long-command s 0x20 x, le-leb 0x00 t (omega arith), le-leb t 0x0f (omega arith), ne-eqb (t % 2) 0 (omega arith), half) (record { done = refl; next = refl; links = refl; reply = refl })
+    shared-brings e (set-x10 x) = rw (long-command s 0x2e (x .0), x .1, x .2) (record { done = refl; next = refl; links = refl; reply = refl })
+    shared-brings e (set-led x y z) = rw (long-command s 0x2e (x .0), x .1, x .2, le-leb 0x11 (dataAt s 3) y, le-leb (dataAt s 3) 0x7f z) (record { done = refl; next = refl; links = refl; reply = refl })
+    shared-brings e (get-database x k y) = rw (long-command s 0x2f (x .0), x .1, x .2, names-record k y) (record { done = refl; next = refl; links = refl; reply = refl })
+    shared-brings e (set-database x k y z v) =
+        rw (long-command s 0x2f (x .0), x .1, x .2, names-record k y, le-leb 1 (dataAt s 5) z, le-leb (dataAt s 5) 8 v)
+        (record { done = refl; next = refl; links = write-there k (x .0 .0) (y .0) v; reply = refl })
+
+  -- a command is a row, or it is not listed
+  pub data SharedJudged (deed : Deed) : Type 0 where
+    listed : (e : Effect) → Shared m l s e → SharedJudged deed
+    other : deed ≡ Deed.Unlisted → SharedJudged deed
+
+  module _ (x : isExtended s ≡ false) where
+    abbrev is : (c : ℕ) → eqb (command1Of s) c ≡ true → Short s c
+    is c e = (x, eqb-true (command1Of s) c e)
+
+    told-judged : Short s 0x1f → SharedJudged (flagsTold m (command2Of s))
+    unfolding flagsTold
+    told-judged y =
+        by SharedJudged (eqb (command2Of s) 0x00) (λ e. listed _ (flags y (eqb-true _ 0x00 e)))
+        (λ _. by SharedJudged (eqb (command2Of s) 0x01) (λ e. listed _ (delta y (eqb-true _ 0x01 e)))
+        (λ _. other refl))
+
+    short-judged : SharedJudged (standardDeed m (requestOf s) (standardOf (command1Of s)))
+    unfolding standards
+    short-judged =
+        by Q _ (λ e. listed _ (ping (is 0x0f e)))
+        (λ _. by Q _ (λ e. listed _ (id-request (is 0x10 e)))
+        (λ _. by Q _ (λ e. listed _ (engine-version (is 0x0d e)))
+        (λ _. by Q _ (λ e. other refl)
+        (λ _. by Q _ (λ e. other refl)
+        (λ _. by Q _ (λ e. other refl)
+        (λ _. by Q _ (λ e. other refl)
+        (λ _. by Q _ (λ e. other refl)
+        (λ _. by Q _ (λ e. other refl)
+        (λ _. by Q _ (λ e. other refl)
+        (λ _. by Q _ (λ e. other refl)
+        (λ _. by Q _ (λ e. told-judged (is 0x1f e))
+        (λ _. by Q _ (λ e. other refl)
+        (λ _. by Q _ (λ e. other refl)
+        (λ _. by Q _ (λ e. listed _ (beep (is 0x30 e)))
+        (λ _. by Q _ (λ e. other refl)
+        (λ _. other refl))))))))))))))))
+      where
+        Q : Standard → Type 0
+        Q command = SharedJudged (standardDeed m (requestOf s) command)
+
+  module _ (x : isExtended s ≡ true) where
+    -- within its limits a number is listed
+    limited-judged : (a b n : ℕ) (change : Change) → (a ≤ n → n ≤ b → SharedJudged (limited a b n change)) → SharedJudged (limited a b n change)
+    unfolding limited
+    limited-judged a b n change f = go (within a b n) refl
+      where
+        go : (t : Bool) → within a b n ≡ t → SharedJudged (choose (within a b n) (acked change) Deed.Unlisted)
+        go true e = let p = both (leb a n) (leb n b) e in f (leb-true a n (p .0)) (leb-true n b (p .1))
+        go false e = other (unfold choose in rw e)
+
+    flag-judged : command1Of s ≡ 0x20 → SharedJudged (flagsDeed m (command2Of s))
+    flag-judged y = limited-judged 0x00 0x0f (command2Of s) _ (λ a b. go b (eqb (command2Of s % 2) 0) refl)
+      where
+        go : {deed : Deed} → command2Of s ≤ 0x0f → (t : Bool) → eqb (command2Of s % 2) 0 ≡ t → SharedJudged deed
+        go b true e = let even : command2Of s % 2 ≡ 0 = eqb-true _ 0 e in listed _ (set-flag (x, y) (command2Of s / 2) (omega arith) (omega arith))
+        go b false e = listed _ (clear-flag (x, y) (command2Of s / 2) (omega arith) (omega (arith, eqb-false (command2Of s % 2) 0 e)))
+
+    module _ (y : command1Of s ≡ 0x2e) where
+      property-judged : command2Of s ≡ 0x00 → SharedJudged (propertyDeed (dataOf s))
+      unfolding propertyDeed
+      property-judged z =
+          by SharedJudged _ (λ e. listed _ (set-x10 ((x, y), z, eqb-true _ 0x04 e)))
+          (λ _. by SharedJudged _ (λ e. limited-judged 0x11 0x7f (dataAt s 3) _ (λ a b. listed _ (set-led ((x, y), z, eqb-true _ 0x07 e) a b)))
+          (λ _. other refl))
+
+      properties-judged : SharedJudged (propertiesDeed (requestOf s) (dataOf s))
+      unfolding propertiesDeed
+      properties-judged = by SharedJudged (eqb (command2Of s) 0x00) (λ e. property-judged (eqb-true _ 0x00 e)) (λ _. other refl)
+
+    module _ (y : command1Of s ≡ 0x2f) where
+      get-judged : command2Of s ≡ 0x00 → dataAt s 2 ≡ 0x00 → (place : Place) → placeOf (records l) address ≡ place → SharedJudged (getDeed (dataOf s) place)
+      get-judged z w (Place.Record k) e = listed _ (get-database ((x, y), z, w) k (Named.named (records l) address k e))
+      get-judged z w Place.Illegal e = other refl
+
+      set-judged : command2Of s ≡ 0x00 → dataAt s 2 ≡ 0x02 → (place : Place) → placeOf (records l) address ≡ place → SharedJudged (setDeed (dataOf s) place)
+      set-judged z w (Place.Record k) e = limited-judged 1 8 (dataAt s 5) _ (λ a b. listed _ (set-database ((x, y), z, w) k (Named.named (records l) address k e) a b))
+      set-judged z w Place.Illegal e = other refl
+
+      record-judged : command2Of s ≡ 0x00 → SharedJudged (recordDeed (dataOf s) (records l))
+      unfolding recordDeed
+      record-judged z =
+          by SharedJudged (eqb (dataAt s 2) 0x00) (λ e. get-judged z (eqb-true _ 0x00 e) (placeOf (records l) address) refl)
+          (λ _. by SharedJudged (eqb (dataAt s 2) 0x02) (λ e. set-judged z (eqb-true _ 0x02 e) (placeOf (records l) address) refl)
+          (λ _. other refl))
+
+      database-judged : SharedJudged (databaseDeed (requestOf s) (dataOf s) (records l))
+      unfolding databaseDeed
+      database-judged = by SharedJudged (eqb (command2Of s) 0x00) (λ e. record-judged (eqb-true _ 0x00 e)) (λ _. other refl)
+
+    long-judged : SharedJudged (extendedDeed m (requestOf s) (dataOf s) (records l) (extendedOf (command1Of s)))
+    unfolding extendeds
+    long-judged =
+        by Q _ (λ e. flag-judged (eqb-true _ 0x20 e))
+        (λ _. by Q _ (λ e. properties-judged (eqb-true _ 0x2e e))
+        (λ _. by Q _ (λ e. database-judged (eqb-true _ 0x2f e))
+        (λ _. other refl)))
+      where
+        Q : Extended → Type 0
+        Q command = SharedJudged (extendedDeed m (requestOf s) (dataOf s) (records l) command)
+
+  pub shared-judged : SharedJudged (deed (commandIn s))
+  shared-judged = by Q (isExtended s) long-judged short-judged
+    where
+      Q : Command → Type 0
+      Q command = SharedJudged (deed command)

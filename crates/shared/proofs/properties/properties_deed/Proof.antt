@@ -1,0 +1,15 @@
+use borrow.Author.Tests.{eq-eqb, ne-eqb}
+use Rattle.basis.specs.Choice.{choose}
+use Rattle.shared.specs.Extended.{propertiesDeed}
+use borrow.Author.Needs.{needs}
+use Rattle.shared.proofs.properties.properties_deed.Statement.{statement}
+use Rattle.shared.proofs.properties.properties_deed.Tie as tie
+
+pub properties-deed-spec : {M : Type 1} → statement M
+unfolding propertiesDeed choose
+properties-deed-spec =
+    tie.close
+    (tie.spec
+    (λ c κs. search needs)
+    (λ c. rw (eq-eqb _ 0x00 (c .before .if1 .taken)) (c .property-deed .ensures))
+    (λ c. rw (ne-eqb _ 0x00 (c .if1 .left))))

@@ -1,14 +1,16 @@
 // What `bench` and `screen` share: link memory from links.bin, frames from standard input, one module ("The program").
+mod answer;
 mod input;
 mod line;
-mod listen;
+mod name;
 mod put;
+mod serve;
 
+use answer::Desk;
 use input::load;
-use listen::Desk;
-use listen::listen;
 use module::state::Identity;
 use module::state::Module;
+use serve::serve_until_end;
 use wire::address::Address;
 
 // What is written for each frame.
@@ -33,7 +35,7 @@ pub fn sit(show: Show) {
     let mut room = [0; 5897];
     // the frames of the longest reply, or its line
     let mut out = [0; 18432];
-    listen(
+    serve_until_end(
         show,
         fresh(),
         &mut memory[..n],
@@ -58,5 +60,6 @@ fn fresh() -> Desk {
     Desk {
         module: Module::fresh_dimmer(identity),
         tally: [0; 9],
+        is_open: true,
     }
 }

@@ -1,11 +1,13 @@
 // A line for a person to read: result, sender, what was asked, reply, records read, level.
+use crate::name::put_kind;
+use crate::name::put_name;
 use crate::put::put;
 use crate::put::put_byte;
 use crate::put::put_bytes;
 use crate::put::put_number;
 use device::step::Answer;
 use results::number;
-use wire::read::is_extended;
+use wire::read::heard_as;
 ghost use Prim.Native.Nat.{_≤_};
 ghost use lib.ListN.{length};
 ghost use Rattle.io.specs.Counts.{Counts};
@@ -81,9 +83,10 @@ fn put_command(line: &mut [u8], at: usize, message: &[u8]) -> usize
     requires { ⌜ 9 ≤ length (now message) ⌝ }
     ensures { λ r. ⌜ Counts r (now (line .exit)) ⌝ }
 {
-    let mut to = put_kind(line, at, message[6]);
+    let kind = heard_as(message);
+    let mut to = put_kind(line, at, kind);
     to = put_bytes(line, to, &message[7..9]);
-    to = put_name(line, to, message[7], is_extended(message));
+    to = put_name(line, to, kind);
     put_data(line, to, &message[9..])
 }
 
@@ -96,59 +99,6 @@ fn put_data(line: &mut [u8], at: usize, data: &[u8]) -> usize
     }
     let to = put(line, at, b" data");
     put_bytes(line, to, data)
-}
-
-fn put_kind(line: &mut [u8], at: usize, flags: u8) -> usize
-    requires { ⌜ at ≤ length (now line) ⌝ }
-    ensures { λ r. ⌜ Counts r (now (line .exit)) ⌝ }
-{
-    match flags / 32 {
-        0 => put(line, at, b" | direct"),
-        2 => put(line, at, b" | cleanup"),
-        6 => put(line, at, b" | broadcast"),
-        _ => put(line, at, b" | other"),
-    }
-}
-
-// What Command 1 is called in the paper's lists, in standard and in extended messages.
-fn put_name(line: &mut [u8], at: usize, one: u8, is_extended: bool) -> usize
-    requires { ⌜ at ≤ length (now line) ⌝ }
-    ensures { λ r. ⌜ Counts r (now (line .exit)) ⌝ }
-{
-    if is_extended {
-        return put_extended_name(line, at, one);
-    }
-    match one {
-        0x0d => put(line, at, b" engine version"),
-        0x0f => put(line, at, b" ping"),
-        0x10 => put(line, at, b" ID request"),
-        0x11 => put(line, at, b" on"),
-        0x12 => put(line, at, b" fast on"),
-        0x13 => put(line, at, b" off"),
-        0x14 => put(line, at, b" fast off"),
-        0x15 => put(line, at, b" brighten"),
-        0x16 => put(line, at, b" dim"),
-        0x19 => put(line, at, b" status"),
-        0x1f => put(line, at, b" get flags"),
-        0x21 => put(line, at, b" set level"),
-        0x2e => put(line, at, b" on at ramp rate"),
-        0x2f => put(line, at, b" off at ramp rate"),
-        0x30 => put(line, at, b" beep"),
-        0x39 => put(line, at, b" set per cent"),
-        _ => put(line, at, b" (not listed)"),
-    }
-}
-
-fn put_extended_name(line: &mut [u8], at: usize, one: u8) -> usize
-    requires { ⌜ at ≤ length (now line) ⌝ }
-    ensures { λ r. ⌜ Counts r (now (line .exit)) ⌝ }
-{
-    match one {
-        0x20 => put(line, at, b" set flags"),
-        0x2e => put(line, at, b" properties"),
-        0x2f => put(line, at, b" database"),
-        _ => put(line, at, b" (not listed)"),
-    }
 }
 
 // How many frames had each result.

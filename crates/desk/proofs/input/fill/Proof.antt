@@ -1,7 +1,9 @@
+-- Each read stands behind those before it; the last adds nothing.
 use Prim.Native.Nat.{_≤_, _-_}
 use mathlib.Core.Path.{_≡_, refl}
 use native.Mathlib.Omega.{arith}
 use lib.ListN.{length}
+use Rattle.io.specs.Counts.{Counts}
 use Rattle.basis.proofs.Counted.{counts}
 use borrow.Author.Needs.{needs}
 use Rattle.desk.proofs.input.fill.Statement.{statement}
@@ -13,6 +15,28 @@ Inv-loop fd memory₀ n₀ memory n = (length memory ≡ length memory₀) × (n
 abbrev μ-loop : tie.MeasureT-loop
 μ-loop fd memory₀ n₀ memory n = length memory - n
 
+loop-less : tie.Need-loop-less Inv-loop μ-loop
+loop-less c =
+    let more = c .before in
+    let read = more .before .before .before .before in
+    omega (arith, rw (more .k .given .1) at (read .read-behind .ensures))
+
+loop-again : tie.Need-loop-again Inv-loop μ-loop
+loop-again c =
+    let more = c .before in
+    let read = more .before .before .before .before in
+    omega (arith, rw (more .k .given .1) at (read .read-behind .ensures))
+
+-- what was there before the last read is there after it
+stays : (c : tie.After-read-behind Inv-loop μ-loop) → Counts (c .before .before .loop .n) (c .read-behind .last .1 .0)
+stays c = counts (c .before .before .loop .n) (c .read-behind .last .1 .0) (omega arith)
+
+returns : tie.Need-returns Inv-loop μ-loop
+returns c = stays (c .before .before .before .before)
+
+returns-2 : tie.Need-returns-2 Inv-loop μ-loop
+returns-2 c = stays (c .before .before .before .before)
+
 pub fill-spec : {M : Type 1} → statement M
 fill-spec =
     tie.close
@@ -22,11 +46,11 @@ fill-spec =
     (λ c. (refl, omega arith))
     (λ c κs. omega arith)
     (λ c. search needs)
-    (λ c. omega (arith, rw (c .before .k .given .1) at (c .before .before .before .before .before .read-behind .ensures)))
-    (λ c. omega (arith, rw (c .before .k .given .1) at (c .before .before .before .before .before .read-behind .ensures)))
+    loop-less
+    loop-again
     (λ c. search needs)
     (λ c. search needs)
     (λ c. omega arith)
-    (λ c. counts (c .before .before .before .before .before .before .loop .n) (c .before .before .before .before .read-behind .last .1 .0) (omega arith))
+    returns
     (λ c. omega arith)
-    (λ c. counts (c .before .before .before .before .before .before .loop .n) (c .before .before .before .before .read-behind .last .1 .0) (omega arith)))
+    returns-2)

@@ -1,3 +1,4 @@
+-- What is laid ends in the line at every turn.
 use Prim.Native.Nat.{_≤_, _-_}
 use mathlib.Core.Path.{_≡_}
 use native.Mathlib.Omega.{arith}
@@ -11,6 +12,9 @@ Inv-loop line₀ tally at₀ i₀ t6 t7 line at i = (length line ≡ length line
 
 abbrev μ-loop : tie.MeasureT-loop
 μ-loop line₀ tally at₀ i₀ t6 t7 line at i = 9 - i
+
+returns : tie.Need-returns Inv-loop μ-loop
+returns c = counts (c .before .loop .at) (c .before .loop .line) (omega arith)
 
 pub put-tally-spec : {M : Type 1} → statement M
 put-tally-spec =
@@ -32,4 +36,4 @@ put-tally-spec =
     (λ c. omega arith)
     (λ c. omega arith)
     (λ c. omega arith)
-    (λ c. counts (c .before .loop .at) (c .before .loop .line) (omega arith)))
+    returns)

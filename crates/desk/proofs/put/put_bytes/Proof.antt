@@ -1,3 +1,4 @@
+-- What is laid ends in the line at every turn.
 use Prim.Native.Nat.{_≤_, _-_}
 use mathlib.Core.Path.{_≡_}
 use native.Mathlib.Omega.{arith}
@@ -12,6 +13,9 @@ Inv-loop line₀ at bytes to₀ i₀ line to i = (length line ≡ length line₀
 abbrev μ-loop : tie.MeasureT-loop
 μ-loop line₀ at bytes to₀ i₀ line to i = length bytes - i
 
+returns : tie.Need-returns Inv-loop μ-loop
+returns c = counts (c .before .loop .to) (c .before .loop .line) (omega arith)
+
 pub put-bytes-spec : {M : Type 1} → statement M
 put-bytes-spec =
     tie.close
@@ -25,4 +29,4 @@ put-bytes-spec =
     (λ c. omega arith)
     (λ c. omega arith)
     (λ c. omega arith)
-    (λ c. counts (c .before .loop .to) (c .before .loop .line) (omega arith)))
+    returns)

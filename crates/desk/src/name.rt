@@ -1,0 +1,132 @@
+// What a message asks for, by the kinds and commands of `wire`. Every variant is listed and no arm takes the rest, so that a
+// command that `wire` gains is named here too, or nothing compiles.
+use crate::put::put;
+use wire::command::Command;
+use wire::command::Extended;
+use wire::command::GroupCommand;
+use wire::command::LoadCommand;
+use wire::command::ModuleCommand;
+use wire::command::OpenCommand;
+use wire::command::Standard;
+use wire::kind::MessageKind;
+ghost use Prim.Native.Nat.{_≤_};
+ghost use lib.ListN.{length};
+ghost use Rattle.io.specs.Counts.{Counts};
+
+pub(crate) fn put_kind(line: &mut [u8], at: usize, kind: MessageKind) -> usize
+    requires { ⌜ at ≤ length (now line) ⌝ }
+    ensures { λ r. ⌜ Counts r (now (line .exit)) ⌝ }
+{
+    match kind {
+        MessageKind::Direct(_, _) => put(line, at, b" | direct"),
+        MessageKind::Cleanup(_, _) => put(line, at, b" | cleanup"),
+        MessageKind::Broadcast(_, _, _) => put(line, at, b" | broadcast"),
+        MessageKind::Foreign => put(line, at, b" | other"),
+    }
+}
+
+// What the paper's lists call it. A foreign message is in none of them: its bytes alone are shown.
+pub(crate) fn put_name(line: &mut [u8], at: usize, kind: MessageKind) -> usize
+    requires { ⌜ at ≤ length (now line) ⌝ }
+    ensures { λ r. ⌜ Counts r (now (line .exit)) ⌝ }
+{
+    match kind {
+        MessageKind::Direct(_, command) => put_direct(line, at, command),
+        MessageKind::Cleanup(_, command) => put_group_command(line, at, command),
+        MessageKind::Broadcast(_, _, command) => put_group_command(line, at, command),
+        MessageKind::Foreign => put(line, at, b""),
+    }
+}
+
+fn put_direct(line: &mut [u8], at: usize, command: Command) -> usize
+    requires { ⌜ at ≤ length (now line) ⌝ }
+    ensures { λ r. ⌜ Counts r (now (line .exit)) ⌝ }
+{
+    match command {
+        Command::Standard(standard) => put_standard(line, at, standard),
+        Command::Extended(extended) => put_extended(line, at, extended),
+    }
+}
+
+fn put_standard(line: &mut [u8], at: usize, command: Standard) -> usize
+    requires { ⌜ at ≤ length (now line) ⌝ }
+    ensures { λ r. ⌜ Counts r (now (line .exit)) ⌝ }
+{
+    match command {
+        Standard::Open(open) => put_open_command(line, at, open),
+        Standard::Module(common) => put_module_command(line, at, common),
+        Standard::Load(load) => put_load_command(line, at, load),
+        Standard::Unlisted => put_unlisted(line, at),
+    }
+}
+
+fn put_open_command(line: &mut [u8], at: usize, command: OpenCommand) -> usize
+    requires { ⌜ at ≤ length (now line) ⌝ }
+    ensures { λ r. ⌜ Counts r (now (line .exit)) ⌝ }
+{
+    match command {
+        OpenCommand::Ping => put(line, at, b" ping"),
+        OpenCommand::IdRequest => put(line, at, b" ID request"),
+    }
+}
+
+fn put_module_command(line: &mut [u8], at: usize, command: ModuleCommand) -> usize
+    requires { ⌜ at ≤ length (now line) ⌝ }
+    ensures { λ r. ⌜ Counts r (now (line .exit)) ⌝ }
+{
+    match command {
+        ModuleCommand::EngineVersion => put(line, at, b" engine version"),
+        ModuleCommand::ReadFlags => put(line, at, b" get flags"),
+        ModuleCommand::Beep => put(line, at, b" beep"),
+    }
+}
+
+fn put_load_command(line: &mut [u8], at: usize, command: LoadCommand) -> usize
+    requires { ⌜ at ≤ length (now line) ⌝ }
+    ensures { λ r. ⌜ Counts r (now (line .exit)) ⌝ }
+{
+    match command {
+        LoadCommand::On => put(line, at, b" on"),
+        LoadCommand::OnFast => put(line, at, b" fast on"),
+        LoadCommand::Instant => put(line, at, b" set level"),
+        LoadCommand::Off => put(line, at, b" off"),
+        LoadCommand::OffFast => put(line, at, b" fast off"),
+        LoadCommand::Brighten => put(line, at, b" brighten"),
+        LoadCommand::Dim => put(line, at, b" dim"),
+        LoadCommand::Status => put(line, at, b" status"),
+        LoadCommand::OnAtRamp => put(line, at, b" on at ramp rate"),
+        LoadCommand::OffAtRamp => put(line, at, b" off at ramp rate"),
+        LoadCommand::Percent => put(line, at, b" set per cent"),
+    }
+}
+
+fn put_extended(line: &mut [u8], at: usize, command: Extended) -> usize
+    requires { ⌜ at ≤ length (now line) ⌝ }
+    ensures { λ r. ⌜ Counts r (now (line .exit)) ⌝ }
+{
+    match command {
+        Extended::SetFlags => put(line, at, b" set flags"),
+        Extended::Properties => put(line, at, b" properties"),
+        Extended::Database => put(line, at, b" database"),
+        Extended::Unlisted => put_unlisted(line, at),
+    }
+}
+
+// What a broadcast or a cleanup tells its group, fast or not.
+fn put_group_command(line: &mut [u8], at: usize, command: GroupCommand) -> usize
+    requires { ⌜ at ≤ length (now line) ⌝ }
+    ensures { λ r. ⌜ Counts r (now (line .exit)) ⌝ }
+{
+    match command {
+        GroupCommand::On => put(line, at, b" on"),
+        GroupCommand::Off => put(line, at, b" off"),
+        GroupCommand::Unlisted => put_unlisted(line, at),
+    }
+}
+
+fn put_unlisted(line: &mut [u8], at: usize) -> usize
+    requires { ⌜ at ≤ length (now line) ⌝ }
+    ensures { λ r. ⌜ Counts r (now (line .exit)) ⌝ }
+{
+    put(line, at, b" (not listed)")
+}

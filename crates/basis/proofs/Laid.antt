@@ -35,13 +35,16 @@ back a xs ys =
     ∙ ap (λ (z : List ℕ). take a xs ++ z) (append-nil ys)
 
 -- a part from a on, with bytes laid at its start
-pub inner : (a : ℕ) (xs ys bytes : List ℕ) → length bytes ≤ length xs - a → ys ≡ laidIfFits (midOf a (length xs - a) xs) bytes → putMid a (length xs - a) xs ys ≡ take a xs ++ laid bytes (drop a xs)
+pub inner : (a : ℕ) (xs ys bytes : List ℕ) → length bytes ≤ length xs - a → ys ≡ laidIfFits (midOf a (length xs - a) xs) bytes
+    → putMid a (length xs - a) xs ys ≡ take a xs ++ laid bytes (drop a xs)
 inner a xs ys bytes h q =
     back a xs ys
     ∙ ap (λ (z : List ℕ). take a xs ++ z) (q ∙ ap (λ (z : List ℕ). laidIfFits z bytes) (rest a xs) ∙ fits (drop a xs) bytes (simp length-drop h))
 
 -- bytes laid directly behind bytes
-pub behind : (room xs ys first more : List ℕ) → length first + length more ≤ length room → xs ≡ laidIfFits room first → ys ≡ laidIfFits (midOf (length first) (length xs - length first) xs) more → putMid (length first) (length xs - length first) xs ys ≡ laid (first ++ more) room
+pub behind : (room xs ys first more : List ℕ) → length first + length more ≤ length room → xs ≡ laidIfFits room first
+    → ys ≡ laidIfFits (midOf (length first) (length xs - length first) xs) more
+    → putMid (length first) (length xs - length first) xs ys ≡ laid (first ++ more) room
 behind room xs ys first more h p q =
     let e : xs ≡ laid first room = p ∙ fits room first (omega arith) in
     let n : length xs ≡ length first + (length room - length first) = ap length e ∙ simp (length-append, length-drop) in

@@ -1,11 +1,13 @@
 -- What a table says of a number.
 use Prim.Native.Nat.{ℕ}
 use mathlib.Core.Path.{_≡_, refl}
+use mathlib.Core.Bool.{Bool, true, _&&_}
 use mathlib.Core.List.{List, [], _∷_, reverse, reverseAux}
 use borrow.Author.Tests.{ne-eqb}
 use Rattle.basis.specs.Choice.{choose}
 use Rattle.basis.specs.Table.{Row, among}
 use Rattle.basis.proofs.Choice.{either}
+use Rattle.basis.proofs.Tests.{both}
 
 -- x is the number of none of the rows; the last row first, as a `match` leaves it to its `_`
 abbrev pub Absent : {A : Type 0} → ℕ → List (Row A) → Type 0
@@ -21,12 +23,14 @@ behind x other (r ∷ rs) before h = let g = behind x other rs (r ∷ before) h 
 pub missed : {A : Type 0} (x : ℕ) (other : A) (rows : List (Row A)) → Absent x (reverse rows) → among x other rows ≡ other
 missed x other rows h = behind x other rows [] h .1
 
--- of every row
-abbrev pub Every : {A : Type 0} → (A → Type 0) → List (Row A) → Type 0
-Every P [] = Unit {0}
-Every P (r ∷ rs) = P (r .value) × Every P rs
+-- a test that every row passes
+abbrev pub allRows : {A : Type 0} → (A → Bool) → List (Row A) → Bool
+allRows t [] = true
+allRows t (r ∷ rs) = t (r .value) && allRows t rs
 
--- what holds of every row, and of what stands for a missing one, holds of what the table says
-pub every : {A : Type 0} (P : A → Type 0) (x : ℕ) (other : A) (rows : List (Row A)) → Every P rows → P other → P (among x other rows)
-every P x other [] h q = q
-every P x other (r ∷ rs) h q = either P _ (h .0) (every P x other rs (h .1) q)
+-- what every row passes, and what stands for a missing one, is passed by what the table says
+pub passed : {A : Type 0} (t : A → Bool) (x : ℕ) (other : A) (rows : List (Row A)) → allRows t rows ≡ true → t other ≡ true → t (among x other rows) ≡ true
+passed t x other [] h q = q
+passed t x other (r ∷ rs) h q =
+    let p = both (t (r .value)) (allRows t rs) h in
+    either (λ (v : _). t v ≡ true) _ (p .0) (passed t x other rs (p .1) q)

@@ -22,29 +22,29 @@ pub struct Ruling {
 }
 
 // Of a message as it was read.
-pub fn rule(m: Module, links: &[u8], message: Message) -> Ruling
+pub fn ruling_by(m: Module, links: &[u8], message: Message) -> Ruling
     ensures { λ r. ⌜ r ≡ rulingBy m (now (links .entry)) message ⌝ }
 {
     if !is_fit(links) {
         return silence(Outcome::BadMemory);
     }
-    rule_reading(m, links, message)
+    read_ruling(m, links, message)
 }
 
-fn rule_reading(m: Module, links: &[u8], message: Message) -> Ruling
+fn read_ruling(m: Module, links: &[u8], message: Message) -> Ruling
     ensures { λ r. ⌜ r ≡ readRuling m (now (links .entry)) (message .«data») (message .reading) ⌝ }
 {
     let reading = message.reading;
     let data = message.data;
     match reading {
-        Reading::Heard(kind) => rule_kind(m, links, kind, data),
+        Reading::Heard(kind) => kind_ruling(m, links, kind, data),
         Reading::BadLength => silence(Outcome::BadLength),
         Reading::BadSum => silence(Outcome::BadSum),
     }
 }
 
 // The search that the kind asks for decides.
-fn rule_kind(m: Module, links: &[u8], kind: MessageKind, data: [u8; 14]) -> Ruling
+fn kind_ruling(m: Module, links: &[u8], kind: MessageKind, data: [u8; 14]) -> Ruling
     ensures { λ r. ⌜ r ≡ kindRuling m (now (links .entry)) «data» kind ⌝ }
 {
     let searched = search(links, wanted_of(kind));

@@ -51,4 +51,11 @@ module _ (m : Module) (l s room : List ℕ) (r : Ruling) (e : r ≡ rulingOf m l
       go true q = apart n (sym (rw q at (p .answers)))
       go false q =
           let long : n ≡ length due = whole-is n (length due) (rw q at (p .answers)) in
-          record { outcome = rw (← e, q); sent = rw (← e, q) long; read = rw (← e, q); next = rw (← e, q) x; memory = rw (← e, q) w; room-after = rw (← e, q) (rw q at (p .leaves)) }
+          record {
+            outcome = rw (← e, q);
+            sent = rw (← e, q) long;
+            read = rw (← e, q);
+            next = rw (← e, q) x;
+            memory = rw (← e, q) w;
+            room-after = rw (← e, q) (rw q at (p .leaves));
+          }

@@ -1,5 +1,5 @@
 // One message to one module. Nothing is written before the whole reply is known to fit.
-use decide::rule::rule;
+use decide::rule::ruling_by;
 use links::write::write;
 use module::change::Change;
 use module::state::Module;
@@ -26,7 +26,7 @@ pub fn step(m: Module, links: &mut [u8], message: &[u8], room: &mut [u8]) -> Ans
     let own = identity.address;
     let heard = read(message, own);
     let data = heard.data;
-    let ruling = rule(m, links, heard);
+    let ruling = ruling_by(m, links, heard);
     let plan = ruling.plan;
     let due = plan.due;
     match send(room, own, links, due) {

@@ -56,7 +56,8 @@ more (x ∷ s) h =
     let l : List ℕ = x ∷ s in
     let e : length (drop (messageSize l) l) ≡ length l - messageSize l = length-drop (messageSize l) l in
     opened (length s) l (omega arith)
-    ∙ ap (λ (z : List ℕ). frameOf (take (messageSize l) l) ++ z) (same (length s) (length (drop (messageSize l) l)) (drop (messageSize l) l) (omega (arith, some l (omega arith))) (omega arith))
+    ∙ ap (λ (z : List ℕ). frameOf (take (messageSize l) l) ++ z)
+    (same (length s) (length (drop (messageSize l) l)) (drop (messageSize l) l) (omega (arith, some l (omega arith))) (omega arith))
 
 -- two bytes for each message: no more than the reply again, and one where a lone byte is left
 bounded : (n : ℕ) (s : List ℕ) → length s ≤ n → length (framedBy n s) ≤ 2 * length s + min 1 (length s)
@@ -66,7 +67,9 @@ bounded (suc n) (x ∷ s) h =
     let l : List ℕ = x ∷ s in
     let rest : List ℕ = drop (messageSize l) l in
     let e : length rest ≡ length l - messageSize l = length-drop (messageSize l) l in
-    let f : length (framedBy (suc n) l) ≡ 2 + messageSize l + length (framedBy n rest) = ap length (opened n l (omega arith)) ∙ length-append (frameOf (take (messageSize l) l)) (framedBy n rest) ∙ ap (λ (k : ℕ). k + length (framedBy n rest)) (length-frame l) in
+    let first : List ℕ = frameOf (take (messageSize l) l) in
+    let two-parts : length (framedBy (suc n) l) ≡ length first + length (framedBy n rest) = ap length (opened n l (omega arith)) ∙ length-append first (framedBy n rest) in
+    let f : length (framedBy (suc n) l) ≡ 2 + messageSize l + length (framedBy n rest) = two-parts ∙ ap (λ (k : ℕ). k + length (framedBy n rest)) (length-frame l) in
     omega (arith, bounded n rest (omega (arith, some l (omega arith))), nine l)
 
 pub twice : (s : List ℕ) → length (framed s) ≤ 2 * length s + 1

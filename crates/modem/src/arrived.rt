@@ -28,7 +28,7 @@ fn frame_start(s: &[u8]) -> usize
 {
     let mut k: usize = 0;
     while k < s.len() {
-        if is_stop(s, k) {
+        if stops_at(s, k) {
             return k;
         }
         k += 1;
@@ -37,7 +37,7 @@ fn frame_start(s: &[u8]) -> usize
 }
 
 // A frame starts here, or the byte that would tell has not arrived.
-fn is_stop(s: &[u8], k: usize) -> bool
+fn stops_at(s: &[u8], k: usize) -> bool
     requires { ⌜ k < length (now s) ⌝ }
     ensures { λ r. ⌜ r ≡ stopsAt (now (s .entry)) k ⌝ }
 {

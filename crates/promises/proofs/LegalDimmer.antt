@@ -1,14 +1,12 @@
 -- A dimmer's own rows: a legal command brings its effect about, and any other is not listed or is as every kind has it.
-use Prim.Native.Nat.{ℕ, _≤_}
+use Prim.Native.Nat.{ℕ}
 use mathlib.Core.Path.{_≡_, refl}
-use mathlib.Core.Bool.{Bool, true, false}
+use mathlib.Core.Bool.{true, false}
 use mathlib.Core.List.{List}
 use native.Mathlib.Omega.{arith}
 use lib.Dec.{eqb, leb}
 use borrow.Author.Tests.{le-leb, eqb-true, leb-true}
 use Rattle.basis.specs.Choice.{choose}
-use Rattle.basis.specs.Numbers.{within}
-use Rattle.basis.proofs.Tests.{both}
 use Rattle.basis.proofs.Choice.{by}
 use Rattle.wire.specs.declared.command.Standard.{Standard}
 use Rattle.wire.specs.declared.command.Extended.{Extended}
@@ -17,11 +15,11 @@ use Rattle.wire.specs.Bytes.{command1Of, command2Of, requestOf, dataAt, dataOf,
 use Rattle.wire.specs.Commands.{standards, extendeds, standardOf, extendedOf}
 use Rattle.module.specs.declared.state.Lamp.{Lamp}
 use Rattle.module.specs.declared.state.Module.{Module}
-use Rattle.module.specs.declared.change.Change.{Change}
 use Rattle.module.specs.declared.deed.Deed.{Deed}
 use Rattle.module.specs.declared.deed.Entry.{Entry}
-use Rattle.module.specs.Deed.{acked, limited, settledBy}
+use Rattle.module.specs.Deed.{limited, settledBy}
 use Rattle.module.specs.Plan.{deedPlan}
+use Rattle.module.proofs.Limited.{by-limits}
 use Rattle.dimmer.specs.Load.{statusDeed, percentDeed}
 use Rattle.dimmer.specs.Properties.{propertyEntry, propertiesEntry}
 use Rattle.dimmer.specs.Table.{standardEntry, extendedEntry, entryOf}
@@ -118,21 +116,12 @@ module _ (m : Module) (lamp : Lamp) (l s : List ℕ) where
         Q command = OwnJudged (standardEntry lamp (requestOf s) command)
 
   module _ (x : isExtended s ≡ true) where
-    -- within its limits a number is listed
-    limited-judged : (a b n : ℕ) (change : Change) → (a ≤ n → n ≤ b → OwnJudged (Entry.Own (limited a b n change))) → OwnJudged (Entry.Own (limited a b n change))
-    unfolding limited
-    limited-judged a b n change f = go (within a b n) refl
-      where
-        go : (t : Bool) → within a b n ≡ t → OwnJudged (Entry.Own (choose (within a b n) (acked change) Deed.Unlisted))
-        go true e = let p = both (leb a n) (leb n b) e in f (leb-true a n (p .0)) (leb-true n b (p .1))
-        go false e = own-other (unfold choose in rw e)
-
     module _ (y : command1Of s ≡ 0x2e) where
       property-judged : command2Of s ≡ 0x00 → OwnJudged (propertyEntry m lamp (dataOf s))
       unfolding propertyEntry
       property-judged z =
           by OwnJudged _ (λ e. own-listed _ (get-properties ((x, y), z, eqb-true _ 0x00 e)))
-          (λ _. by OwnJudged _ (λ e. limited-judged 0x00 0x1f (dataAt s 3) _ (λ a b. own-listed _ (set-ramp ((x, y), z, eqb-true _ 0x05 e) b)))
+          (λ _. by OwnJudged _ (λ e. by-limits (λ (deed : Deed). OwnJudged (Entry.Own deed)) 0x00 0x1f (dataAt s 3) _ (λ a b. own-listed _ (set-ramp ((x, y), z, eqb-true _ 0x05 e) b)) (own-other refl))
           (λ _. by OwnJudged _ (λ e. own-listed _ (set-on-level ((x, y), z, eqb-true _ 0x06 e)))
           (λ _. left refl)))
 

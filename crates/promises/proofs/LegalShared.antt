@@ -4,14 +4,12 @@ use mathlib.Core.Path.{_≡_, refl, sym, _∙_, ap}
 use mathlib.Core.Bool.{Bool, true, false}
 use mathlib.Core.List.{List}
 use native.Mathlib.Omega.{arith}
-use lib.Dec.{eqb, leb}
+use lib.Dec.{eqb}
 use lib.ListN.{length, take, drop, length-take}
 use lib.Seq.{drop-drop}
-use borrow.Author.Tests.{le-leb, eq-eqb, ne-eqb, eqb-true, eqb-false, leb-true}
+use borrow.Author.Tests.{le-leb, eq-eqb, ne-eqb, eqb-true, eqb-false}
 use Rattle.basis.specs.Choice.{choose}
 use Rattle.basis.specs.Flags.{flagged}
-use Rattle.basis.specs.Numbers.{within}
-use Rattle.basis.proofs.Tests.{both}
 use Rattle.basis.proofs.Choice.{by}
 use Rattle.basis.proofs.Spelled.{spelled-from}
 use Rattle.wire.specs.declared.command.Standard.{Standard}
@@ -27,10 +25,10 @@ use Rattle.links.specs.Write.{written, writtenIfThere}
 use Rattle.links.proofs.Named
 use Rattle.links.proofs.Written
 use Rattle.module.specs.declared.state.Module.{Module}
-use Rattle.module.specs.declared.change.Change.{Change}
 use Rattle.module.specs.declared.deed.Deed.{Deed}
-use Rattle.module.specs.Deed.{acked, limited}
+use Rattle.module.specs.Deed.{limited}
 use Rattle.module.specs.Plan.{deedPlan}
+use Rattle.module.proofs.Limited.{by-limits}
 use Rattle.shared.specs.Standard.{flagsTold, standardDeed}
 use Rattle.shared.specs.Extended.{flagsDeed, propertyDeed, propertiesDeed, getDeed, setDeed, recordDeed, databaseDeed, extendedDeed}
 use Rattle.shared.specs.Table.{sharedDeed}
@@ -124,17 +122,8 @@ module _ (m : Module) (l s : List ℕ) where
         Q command = SharedJudged (standardDeed m (requestOf s) command)
 
   module _ (x : isExtended s ≡ true) where
-    -- within its limits a number is listed
-    limited-judged : (a b n : ℕ) (change : Change) → (a ≤ n → n ≤ b → SharedJudged (limited a b n change)) → SharedJudged (limited a b n change)
-    unfolding limited
-    limited-judged a b n change f = go (within a b n) refl
-      where
-        go : (t : Bool) → within a b n ≡ t → SharedJudged (choose (within a b n) (acked change) Deed.Unlisted)
-        go true e = let p = both (leb a n) (leb n b) e in f (leb-true a n (p .0)) (leb-true n b (p .1))
-        go false e = other (unfold choose in rw e)
-
     flag-judged : command1Of s ≡ 0x20 → SharedJudged (flagsDeed m (command2Of s))
-    flag-judged y = limited-judged 0x00 0x0f (command2Of s) _ (λ a b. go b (eqb (command2Of s % 2) 0) refl)
+    flag-judged y = by-limits SharedJudged 0x00 0x0f (command2Of s) _ (λ a b. go b (eqb (command2Of s % 2) 0) refl) (other refl)
       where
         go : {deed : Deed} → command2Of s ≤ 0x0f → (t : Bool) → eqb (command2Of s % 2) 0 ≡ t → SharedJudged deed
         go b true e = let even : command2Of s % 2 ≡ 0 = eqb-true _ 0 e in listed _ (set-flag (x, y) (command2Of s / 2) (omega arith) (omega arith))
@@ -145,7 +134,7 @@ module _ (m : Module) (l s : List ℕ) where
       unfolding propertyDeed
       property-judged z =
           by SharedJudged _ (λ e. listed _ (set-x10 ((x, y), z, eqb-true _ 0x04 e)))
-          (λ _. by SharedJudged _ (λ e. limited-judged 0x11 0x7f (dataAt s 3) _ (λ a b. listed _ (set-led ((x, y), z, eqb-true _ 0x07 e) a b)))
+          (λ _. by SharedJudged _ (λ e. by-limits SharedJudged 0x11 0x7f (dataAt s 3) _ (λ a b. listed _ (set-led ((x, y), z, eqb-true _ 0x07 e) a b)) (other refl))
           (λ _. other refl))
 
       properties-judged : SharedJudged (propertiesDeed (requestOf s) (dataOf s))
@@ -158,7 +147,7 @@ module _ (m : Module) (l s : List ℕ) where
       get-judged z w Place.Illegal e = other refl
 
       set-judged : command2Of s ≡ 0x00 → dataAt s 2 ≡ 0x02 → (place : Place) → placeOf (records l) address ≡ place → SharedJudged (setDeed (dataOf s) place)
-      set-judged z w (Place.Record k) e = limited-judged 1 8 (dataAt s 5) _ (λ a b. listed _ (set-database ((x, y), z, w) k (Named.named (records l) address k e) a b))
+      set-judged z w (Place.Record k) e = by-limits SharedJudged 1 8 (dataAt s 5) _ (λ a b. listed _ (set-database ((x, y), z, w) k (Named.named (records l) address k e) a b)) (other refl)
       set-judged z w Place.Illegal e = other refl
 
       record-judged : command2Of s ≡ 0x00 → SharedJudged (recordDeed (dataOf s) (records l))

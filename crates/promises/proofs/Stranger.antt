@@ -5,10 +5,10 @@ use mathlib.Core.Bool.{Bool, true, false, not, _&&_, _||_}
 use mathlib.Core.List.{List, [], _++_}
 use lib.Dec.{eqb}
 use lib.ListN.{drop}
-use borrow.Author.Tests.{eqb-true}
+use borrow.Author.Tests.{eqb-true, not-true}
 use Rattle.basis.specs.Choice.{choose}
 use Rattle.basis.specs.Table.{Row, among}
-use Rattle.basis.proofs.Table.{every}
+use Rattle.basis.proofs.Table.{passed}
 use Rattle.basis.proofs.Choice.{either, beside}
 use Rattle.basis.proofs.Tests.{clash}
 use Rattle.wire.specs.declared.command.Standard.{Standard}
@@ -45,10 +45,13 @@ open-is command1 = go (eqb command1 0x0f) (eqb command1 0x10)
     closed : List (Row Standard)
     closed = drop 2 standards
 
-    go : (ping id : Bool) → isOpen (choose ping (Standard.Open OpenCommand.Ping) (choose id (Standard.Open OpenCommand.IdRequest) (among command1 Standard.Unlisted closed))) ≡ ping || id
+    rest : Standard
+    rest = among command1 Standard.Unlisted closed
+
+    go : (ping id : Bool) → isOpen (choose ping (Standard.Open OpenCommand.Ping) (choose id (Standard.Open OpenCommand.IdRequest) rest)) ≡ ping || id
     go true id = refl
     go false true = refl
-    go false false = every (λ (x : Standard). isOpen x ≡ false) command1 Standard.Unlisted closed (refl, (refl, (refl, (refl, (refl, (refl, (refl, (refl, (refl, (refl, (refl, (refl, (refl, (refl, tt)))))))))))))) refl
+    go false false = not-true (isOpen rest) (passed (λ (x : Standard). not (isOpen x)) command1 Standard.Unlisted closed refl refl)
 
 pub exempt : (s : List ℕ) → needsNoLink (commandIn s) ≡ pingOrId s
 unfolding choose
@@ -81,7 +84,8 @@ pub record Quiet (m : Module) (l : List ℕ) (p : Plan) (bytes : List ℕ) : Typ
   pub sent : replyOf (m .identity .address) l (p .due) ≡ bytes
 
 module _ (m : Module) (l s : List ℕ) (stranger : Stranger l s) where
-  opens : (d : List ℕ) (n : ℕ) → pingOrId s ≡ true → Quiet m l (deedPlan m (requestOf s) (deedOf m (requestOf s) d n (commandIn s))) (openBytes (m .identity) s (eqb (command1Of s) 0x0f))
+  opens : (d : List ℕ) (n : ℕ) → pingOrId s ≡ true
+      → Quiet m l (deedPlan m (requestOf s) (deedOf m (requestOf s) d n (commandIn s))) (openBytes (m .identity) s (eqb (command1Of s) 0x0f))
   unfolding choose standards
   opens d n e = go (isExtended s) (eqb (command1Of s) 0x0f) refl e
     where
@@ -95,7 +99,9 @@ module _ (m : Module) (l s : List ℕ) (stranger : Stranger l s) where
     abbrev QuietKind : MessageKind → List ℕ → Type 0
     QuietKind kind bytes = Quiet m l (kindRuling m l d kind .plan) bytes
 
-    to-direct : (t : Bool) → pingOrId s ≡ t → QuietKind (MessageKind.Direct (requestOf s) (commandIn s)) (choose t (openBytes (m .identity) s (eqb (command1Of s) 0x0f)) (standard (m .identity .address) (fromOf s) ReplyType.Nak (command1Of s) 0xff))
+    to-direct : (t : Bool) → pingOrId s ≡ t
+        → QuietKind (MessageKind.Direct (requestOf s) (commandIn s))
+        (choose t (openBytes (m .identity) s (eqb (command1Of s) 0x0f)) (standard (m .identity .address) (fromOf s) ReplyType.Nak (command1Of s) 0xff))
     unfolding choose
     to-direct true e = rw (exempt-plan m l (requestOf s) d (records l) (commandIn s) (exempt s ∙ e)) (opens d (records l) e)
     to-direct false e = rw (stranger-plan m l (requestOf s) d (records l) (commandIn s) stranger (exempt s ∙ e)) (record { nothing = refl; sent = refl })

@@ -104,7 +104,7 @@ pub record EachOnce : Type 0 where
   pub shared-deed : (m : Module) (q : Request) (d : List ℕ) (n : ℕ) (command : Command) → Only (λ (r : Deed). r ≡ sharedDeed m q d n command)
   pub entry-of : (m : Module) (lamp : Lamp) (q : Request) (d : List ℕ) (command : Command) → Only (λ (r : Entry). r ≡ entryOf m lamp q d command)
   pub group-deed : (lamp : Lamp) (command : GroupCommand) (link : Link) → Only (λ (r : GroupDeed). r ≡ groupDeed lamp command link)
-  pub rule : (m : Module) (l : List ℕ) (message : Message) → Only (λ (r : Ruling). r ≡ rulingBy m l message)
+  pub ruling-by : (m : Module) (l : List ℕ) (message : Message) → Only (λ (r : Ruling). r ≡ rulingBy m l message)
   pub step : (m : Module) (l s room : List ℕ) → Only (λ (d : Called). StepPromise m l s room (d .answer) (d .links) (d .room))
   pub seek : (s : List ℕ) → Only (λ (r : Seen). r ≡ seekOf s)
   pub keep : (held : List ℕ) (from : ℕ) → Only (λ (after : List ℕ). after ≡ laid (drop from held) held)

@@ -1,10 +1,11 @@
 // The writer of one message, which gets the remaining part of the reply room ("Message bytes").
+use crate::due::DataBytes;
 use crate::due::Head;
 use crate::due::ReplyType;
 use wire::address::Address;
 ghost use mathlib.Core.Path.{_≡_};
 ghost use Rattle.basis.specs.Laid.{laidIfFits};
-ghost use Rattle.reply.specs.Message.{replyFlags, standard, extended, headOf};
+ghost use Rattle.reply.specs.Message.{replyFlags, standard, dataBytes, extended, headOf};
 
 fn reply_flags(reply_type: ReplyType) -> u8
     ensures { λ r. ⌜ r ≡ replyFlags «reply_type» ⌝ }
@@ -55,14 +56,8 @@ pub(crate) fn put_head(room: &mut [u8], own: Address, head: Head)
 }
 
 // An extended message, twenty-three bytes: Command 1, 00, and fourteen bytes of data.
-pub(crate) fn put_extended(
-    room: &mut [u8],
-    from: Address,
-    to: Address,
-    command1: u8,
-    data: [u8; 14],
-)
-    ensures { λ _. ⌜ now (room .exit) ≡ laidIfFits (now (room .entry)) (extended from to command1 «data») ⌝ }
+pub(crate) fn put_extended(room: &mut [u8], from: Address, to: Address, command1: u8, d: DataBytes)
+    ensures { λ _. ⌜ now (room .exit) ≡ laidIfFits (now (room .entry)) (extended from to command1 (dataBytes d)) ⌝ }
 {
     let flags = reply_flags(ReplyType::Data);
     let bytes = [
@@ -75,20 +70,20 @@ pub(crate) fn put_extended(
         flags,
         command1,
         0x00,
-        data[0],
-        data[1],
-        data[2],
-        data[3],
-        data[4],
-        data[5],
-        data[6],
-        data[7],
-        data[8],
-        data[9],
-        data[10],
-        data[11],
-        data[12],
-        data[13],
+        d.d1,
+        d.d2,
+        d.d3,
+        d.d4,
+        d.d5,
+        d.d6,
+        d.d7,
+        d.d8,
+        d.d9,
+        d.d10,
+        d.d11,
+        d.d12,
+        d.d13,
+        d.d14,
     ];
     basis::lay(room, &bytes);
 }

@@ -1,4 +1,5 @@
 // The records that Get Database sends ("Direct commands, extended").
+use crate::due::DataBytes;
 use crate::message::put_extended;
 use links::memory::is_end_mark;
 use links::memory::record_or_blank;
@@ -61,23 +62,23 @@ fn put_record(room: &mut [u8], own: Address, to: Address, data1: u8, links: &[u8
     let high = (name / 256) as u8;
     let low = (name % 256) as u8;
     let r = record_or_blank(links, k);
-    let data = [
-        data1,
-        0x01,
-        high,
-        low,
-        0x00,
-        r[0],
-        r[1],
-        r[2],
-        r[3],
-        r[4],
-        r[5],
-        r[6],
-        r[7],
-        0x00,
-    ];
-    put_extended(room, own, to, 0x2f, data);
+    let d = DataBytes {
+        d1: data1,
+        d2: 0x01,
+        d3: high,
+        d4: low,
+        d5: 0x00,
+        d6: r[0],
+        d7: r[1],
+        d8: r[2],
+        d9: r[3],
+        d10: r[4],
+        d11: r[5],
+        d12: r[6],
+        d13: r[7],
+        d14: 0x00,
+    };
+    put_extended(room, own, to, 0x2f, d);
 }
 
 // `n` records upward from record `k`, each directly after the one before it.

@@ -72,24 +72,8 @@ fn send_properties(room: &mut [u8], own: Address, head: Head, d: DataBytes) -> S
         return Sent::Short;
     }
     let to = head.to;
-    let data = [
-        d.d1,
-        d.d2,
-        d.d3,
-        d.d4,
-        d.d5,
-        d.d6,
-        d.d7,
-        d.d8,
-        d.d9,
-        d.d10,
-        d.d11,
-        d.d12,
-        d.d13,
-        d.d14,
-    ];
     put_head(room, own, head);
-    put_extended(&mut room[9..], own, to, 0x2e, data);
+    put_extended(&mut room[9..], own, to, 0x2e, d);
     Sent::Whole(32)
 }
 

@@ -24,14 +24,14 @@ returns : tie.Need-returns Inv-loop μ-loop
 returns c =
     let s = c .before .before .before .before .before .args .s .now in
     let t = c .before .before .before .loop in
-    sym (here (stopsAt s) (length s - t .k) (t .k) (omega arith) (sym (c .before .is-stop .ensures) ∙ c .if1 .taken)) ∙ t .inv .1
+    sym (here (stopsAt s) (length s - t .k) (t .k) (omega arith) (sym (c .before .stops-at .ensures) ∙ c .if1 .taken)) ∙ t .inv .1
 
 loop-again : tie.Need-loop-again Inv-loop μ-loop
 loop-again c =
     let s = c .before .before .before .before .before .args .s .now in
     let t = c .before .before .before .loop in
     let p : length s - (t .k + 1) ≡ pred (length s - t .k) = omega arith in
-    (omega arith, rw p (sym (later (stopsAt s) (length s - t .k) (t .k) (omega arith) (sym (c .before .is-stop .ensures) ∙ c .if1 .left)) ∙ t .inv .1))
+    (omega arith, rw p (sym (later (stopsAt s) (length s - t .k) (t .k) (omega arith) (sym (c .before .stops-at .ensures) ∙ c .if1 .left)) ∙ t .inv .1))
 
 returns-2 : tie.Need-returns-2 Inv-loop μ-loop
 returns-2 c =

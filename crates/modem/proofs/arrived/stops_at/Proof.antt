@@ -1,10 +1,10 @@
 use borrow.Author.Needs.{needs}
 use borrow.Author.Tests.{eq-eqb, ne-eqb}
-use Rattle.modem.proofs.arrived.is_stop.Statement.{statement}
-use Rattle.modem.proofs.arrived.is_stop.Tie as tie
+use Rattle.modem.proofs.arrived.stops_at.Statement.{statement}
+use Rattle.modem.proofs.arrived.stops_at.Tie as tie
 
-pub is-stop-spec : {M : Type 1} → statement M
-is-stop-spec =
+pub stops-at-spec : {M : Type 1} → statement M
+stops-at-spec =
     tie.close
     (tie.spec
     (λ c. search needs)

@@ -1,9 +1,9 @@
 use borrow.Author.Needs.{needs}
-use Rattle.decide.proofs.rule.rule_reading.Statement.{statement}
-use Rattle.decide.proofs.rule.rule_reading.Tie as tie
+use Rattle.decide.proofs.rule.read_ruling.Statement.{statement}
+use Rattle.decide.proofs.rule.read_ruling.Tie as tie
 
-pub rule-reading-spec : {M : Type 1} → statement M
-rule-reading-spec =
+pub read-ruling-spec : {M : Type 1} → statement M
+read-ruling-spec =
     tie.close
     (tie.spec
     (λ c. search needs)
@@ -12,6 +12,6 @@ rule-reading-spec =
     (λ c κs. search needs)
     (λ c. search needs)
     (λ c κs. search needs)
-    (λ c. rw (c .rule-kind .ensures, c .before .before .reading .given .1))
+    (λ c. rw (c .kind-ruling .ensures, c .before .before .reading .given .1))
     (λ c. rw (c .silence .ensures, c .before .enum-told .given .1))
     (λ c. rw (c .silence2 .ensures, c .before .enum-told2 .given .1)))

@@ -1,9 +1,9 @@
 use borrow.Author.Needs.{needs}
-use Rattle.decide.proofs.rule.rule_kind.Statement.{statement}
-use Rattle.decide.proofs.rule.rule_kind.Tie as tie
+use Rattle.decide.proofs.rule.kind_ruling.Statement.{statement}
+use Rattle.decide.proofs.rule.kind_ruling.Tie as tie
 
-pub rule-kind-spec : {M : Type 1} → statement M
-rule-kind-spec =
+pub kind-ruling-spec : {M : Type 1} → statement M
+kind-ruling-spec =
     tie.close
     (tie.spec
     (λ c κs. search needs)

@@ -1,0 +1,2 @@
+-- Laws of what a command comes to.
+pub mod Limited

@@ -86,7 +86,10 @@ fn send_records(
     k: usize,
     count: usize,
 ) -> Sent
-    ensures { λ r. ⌜ Sending (headOf own head ++ sentRecords own (head .to) data1 (now (links .entry)) k count) (now (room .entry)) r (now (room .exit)) ⌝ }
+    ensures { λ r. ⌜
+        Sending (headOf own head ++ sentRecords own (head .to) data1 (now (links .entry)) k count)
+        (now (room .entry)) r (now (room .exit))
+        ⌝ }
 {
     let n = count_sent(links, k, count);
     // So many would be too long; for fewer the length is a number that the machine has.

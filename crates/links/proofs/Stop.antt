@@ -1,13 +1,13 @@
 -- What a search comes to, by where it stops.
 use Prim.Native.Nat.{ℕ, _+_, _≤_, _<_}
-use mathlib.Core.Path.{_≡_, refl}
+use mathlib.Core.Path.{_≡_}
 use mathlib.Core.Bool.{true, false}
 use mathlib.Core.List.{List}
 use borrow.Author.Tests.{lt-ltb, le-ltb}
 use Rattle.basis.specs.Choice.{choose}
 use Rattle.links.specs.declared.search.Found.{Found}
 use Rattle.links.specs.Record.{records, recordAt, linkOf, isEndMark}
-use Rattle.links.specs.Search.{stoppedAt, isFound, ifFound}
+use Rattle.links.specs.Search.{stoppedAt}
 
 module _ (l : List ℕ) (k : ℕ) where
   pub at-memory-end : records l ≤ k → stoppedAt l k ≡ record { read = records l; found = Found.MemoryEnd }
@@ -21,11 +21,3 @@ module _ (l : List ℕ) (k : ℕ) where
   pub at-match : k < records l → isEndMark (recordAt l k) ≡ false → stoppedAt l k ≡ record { read = k + 1; found = Found.Match (linkOf (recordAt l k)) }
   unfolding choose
   at-match h e = rw (lt-ltb k (records l) h, e)
-
--- what follows from being found, whatever the record
-pub by-found : {A : Type 0} (f : Found) (x y : A) → ifFound f (λ link. x) y ≡ choose (isFound f) x y
-unfolding choose
-by-found Found.NoSearch x y = refl
-by-found (Found.Match link) x y = refl
-by-found Found.EndMark x y = refl
-by-found Found.MemoryEnd x y = refl

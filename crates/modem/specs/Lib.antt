@@ -2,3 +2,5 @@
 pub mod Arrived
 pub mod Frames
 pub mod Serve
+pub mod Stream
+pub mod Program

@@ -3,15 +3,13 @@ use Prim.Native.Nat.{ℕ}
 use mathlib.Core.List.{List, [], _∷_, _++_}
 use lib.ListN.{replicate}
 use Rattle.module.specs.declared.state.Module.{Module}
-use Rattle.module.specs.Module.{freshDimmer}
 use Rattle.module.specs.Change.{withLoad}
 use Rattle.dimmer.specs.Lamp
+use Rattle.modem.specs.Program.{start}
 
 -- a fresh module of document 01's identity
 unfoldable pub fresh : Module
-fresh =
-    freshDimmer
-    (record { address = record { high = 0x00; middle = 0x10; low = 0x3a }; category = 0x01; subcategory = 0x0f; firmware = 0xc1; revision = 0x00 })
+fresh = start
 
 -- the same with one value set; the others that an example alters are set by module
 unfoldable pub withLevel : ℕ → Module → Module

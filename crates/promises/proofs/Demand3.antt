@@ -101,7 +101,7 @@ learns-nothing m n l k s room i f g a b =
     (reply-by m l s room ∙ ap (sentWhere room) due ∙ sym (reply-by n k s room), room-by m l s room ∙ ap (roomWhere room) due ∙ sym (room-by n k s room))
 
 -- a stranger's call leaves the state as it was
-still : (s : State) (c : Call) → Stranger (s .links) (c .message) → leftBy (callOf s c) ≡ s
+pub still : (s : State) (c : Call) → Stranger (s .links) (c .message) → leftBy (callOf s c) ≡ s
 still s c h =
     let u = unaltered (s .device) (s .links) (c .message) h in
     either (λ (t : Step). leftBy t ≡ s) _ refl

@@ -10,4 +10,5 @@ pub mod Demand2
 pub mod Stranger
 pub mod Room
 pub mod Demand3
+pub mod Lent
 pub mod OneAnswer

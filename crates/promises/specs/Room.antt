@@ -1,7 +1,7 @@
 -- Room enough ("Result numbers", "The program").
 use Prim.Native.Nat.{ℕ, _≤_, _<_}
 use mathlib.Core.Path.{_≡_}
-use mathlib.Core.List.{List}
+use mathlib.Core.List.{List, map}
 use mathlib.Core.Logic.{_↔_}
 use lib.ListN.{length}
 use Rattle.reply.specs.Reply.{replyOf}
@@ -9,6 +9,7 @@ use Rattle.results.specs.Number.{numberOf}
 use Rattle.module.specs.declared.state.Module.{Module}
 use Rattle.decide.specs.Ruling.{rulingOf}
 use Rattle.device.specs.Step.{stepOf}
+use Rattle.device.specs.Run.{State, saidOf, runOf, endOf, callsOf, lentCall, lentOf, lentEnd}
 
 -- the reply that is due to a message, whatever the room
 abbrev pub dueTo : Module → List ℕ → List ℕ → List ℕ
@@ -21,3 +22,14 @@ DecidesFive = (m : Module) (l s room : List ℕ) → (numberOf (stepOf m l s roo
 -- 5,897 bytes hold every reply
 abbrev pub AlwaysEnough : Type 0
 AlwaysEnough = (m : Module) (l s : List ℕ) → length (dueTo m l s) ≤ 5897
+
+-- two rooms of one length give equal number, reply, records read, module and link memory
+abbrev pub LengthAlone : Type 0
+LengthAlone =
+    (s : State) (message room other : List ℕ) → length room ≡ length other → saidOf (lentCall s room message) ≡ saidOf (lentCall s other message)
+
+-- so messages with one room, lent again and again, come to what they come to with rooms of its length
+abbrev pub LentAgain : Type 0
+LentAgain =
+    (s : State) (room : List ℕ) (messages : List (List ℕ)) →
+    (lentOf s room messages ≡ map saidOf (runOf s (callsOf room messages))) × (lentEnd s room messages ≡ endOf s (callsOf room messages))

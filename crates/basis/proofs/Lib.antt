@@ -8,3 +8,4 @@ pub mod Spelled
 pub mod Laid
 pub mod Over
 pub mod Flags
+pub mod Bits

@@ -35,7 +35,7 @@ module _ (m : Module) (l s room : List ℕ) (r : Ruling) (e : r ≡ rulingOf m l
   short after p = go (ltb (length room) (length due)) refl
     where
       go : (t : Bool) → ltb (length room) (length due) ≡ t → StepPromise m l s room (record { outcome = Outcome.NoRoom; length = 0; read = r .read; next = m }) l after
-      go true q = record { outcome = rw (← e, q); sent = rw (← e, q); read = rw (← e, q); next = rw (← e, q); memory = rw (← e, q); room-after = rw (← e, q) (rw q at (p .leaves)) }
+      go true q = record { number = rw (← e, q); outcome = rw (← e, q); sent = rw (← e, q); read = rw (← e, q); next = rw (← e, q); memory = rw (← e, q); room-after = rw (← e, q) (rw q at (p .leaves)) }
       go false q = apart (length due) (rw q at (p .answers))
 
   -- room enough: all has happened that was decided
@@ -52,6 +52,7 @@ module _ (m : Module) (l s room : List ℕ) (r : Ruling) (e : r ≡ rulingOf m l
       go false q =
           let long : n ≡ length due = whole-is n (length due) (rw q at (p .answers)) in
           record {
+            number = rw (← e, q);
             outcome = rw (← e, q);
             sent = rw (← e, q) long;
             read = rw (← e, q);

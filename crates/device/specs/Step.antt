@@ -9,6 +9,7 @@ use Rattle.basis.specs.Laid.{laid}
 use Rattle.links.specs.Write.{writtenIfThere}
 use Rattle.reply.specs.Reply.{replyOf}
 use Rattle.results.specs.declared.Outcome.{Outcome}
+use Rattle.results.specs.Number.{numberOf}
 use Rattle.module.specs.declared.state.Module.{Module}
 use Rattle.module.specs.declared.change.Change.{Change}
 use Rattle.module.specs.Change.{apply}
@@ -60,6 +61,7 @@ stepOf m l s room = finishOf m l (heardBy m s .«data») room (rulingOf m l s)
 
 -- what a call promises: its answer, the link memory and the room afterwards
 pub record StepPromise (m : Module) (l s room : List ℕ) (answer : Answer) (links after : List ℕ) : Type 0 where
+  pub number : numberOf (answer .outcome) ≡ numberOf (stepOf m l s room .outcome)
   pub outcome : answer .outcome ≡ stepOf m l s room .outcome
   pub sent : answer .length ≡ length (stepOf m l s room .reply)
   pub read : answer .read ≡ stepOf m l s room .read

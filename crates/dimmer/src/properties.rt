@@ -14,10 +14,10 @@ ghost use Rattle.dimmer.specs.Properties.{propertyEntry, propertiesEntry
 pub(crate) fn properties_entry(m: Module, lamp: Lamp, r: Request, data: [u8; 14]) -> Entry
     ensures { λ entry. ⌜ entry ≡ propertiesEntry m lamp r «data» ⌝ }
 {
-    if r.command2 == 0x00 {
-        property_entry(m, lamp, data)
-    } else {
-        Entry::Shared
+    let command2 = r.command2;
+    match command2 {
+        0x00 => property_entry(m, lamp, data),
+        _ => Entry::Shared,
     }
 }
 

@@ -16,7 +16,7 @@ use Rattle.device.specs.Step.{Step, stepOf, StepPromise}
 use Rattle.device.proofs.Replied.{replied}
 use Rattle.modem.specs.declared.serve.Served.{Served}
 use Rattle.modem.specs.Frames.{framed}
-use Rattle.modem.specs.Serve.{Turn, answerOf, doneOf, ample, turnOf, ServePromise}
+use Rattle.modem.specs.Serve.{Turn, answerOf, doneOf, ample, turnOf, servedNumber, ServePromise}
 
 -- the message behind the first two bytes; none where there are no more
 pub message : (s : List ℕ) → midOf (min (length s) 2) (length s - min (length s) 2) s ≡ drop 2 s
@@ -51,6 +51,7 @@ module _ (m : Module) (l frame room out : List ℕ) where
       → ServePromise m l frame room out r links room' out'
   kept x e s n o p =
       record {
+        number = ap servedNumber (s ∙ sym (ap (λ (t : Turn). t .served) e));
         served = s ∙ sym (ap (λ (t : Turn). t .served) e);
         links-after = n ∙ sym (ap (λ (t : Turn). t .links) e);
         room-after = o ∙ sym (ap (λ (t : Turn). t .room) e);

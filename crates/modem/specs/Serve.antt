@@ -7,6 +7,7 @@ use lib.Dec.{ltb}
 use lib.ListN.{length, drop}
 use Rattle.basis.specs.Choice.{choose}
 use Rattle.basis.specs.Laid.{laid}
+use Rattle.results.specs.Number.{numberOf}
 use Rattle.module.specs.declared.state.Module.{Module}
 use Rattle.device.specs.declared.step.Answer.{Answer}
 use Rattle.device.specs.Step.{Step, stepOf}
@@ -36,7 +37,13 @@ turnOf m l frame room out =
     choose (ample room out) (doneOf out (stepOf m l (drop 2 frame) room))
     (record { served = Served.Cramped; links = l; room = room; out = out })
 
+-- the paper's number; none of them where no frame was served
+abbrev pub servedNumber : Served → ℕ
+servedNumber (Served.Done answer n) = numberOf (answer .outcome)
+servedNumber Served.Cramped = 255
+
 pub record ServePromise (m : Module) (l frame room out : List ℕ) (r : Served) (links room' out' : List ℕ) : Type 0 where
+  pub number : servedNumber r ≡ servedNumber (turnOf m l frame room out .served)
   pub served : r ≡ turnOf m l frame room out .served
   pub links-after : links ≡ turnOf m l frame room out .links
   pub room-after : room' ≡ turnOf m l frame room out .room

@@ -54,7 +54,7 @@ each-once =
     record {
       lay = λ _ _. by-value _;
       min-of = λ _ _. by-value _;
-      read = λ _ _. by-value _;
+      read = λ _ _ _ _ p q. by-value _ _ _ (p .message) (q .message);
       heard-as = λ _. by-value _;
       is-extended = λ _. by-value _;
       is-fit = λ _. by-value _;

@@ -13,7 +13,7 @@ use Rattle.wire.specs.declared.kind.MessageKind.{MessageKind}
 use Rattle.wire.specs.declared.kind.Message.{Message}
 use Rattle.wire.specs.Bytes.{isExtended}
 use Rattle.wire.specs.Kinds.{heardAs}
-use Rattle.wire.specs.Reading.{readOf}
+use Rattle.wire.specs.Reading.{ReadPromise}
 use Rattle.links.specs.declared.memory.Link.{Link}
 use Rattle.links.specs.declared.search.Wanted.{Wanted}
 use Rattle.links.specs.declared.search.Found.{Found}
@@ -75,7 +75,7 @@ pub record Called : Type 0 where
 pub record EachOnce : Type 0 where
   pub lay : (room bytes : List ℕ) → Only (λ (after : List ℕ). after ≡ laidIfFits room bytes)
   pub min-of : (a b : ℕ) → Only (λ (r : ℕ). r ≡ min a b)
-  pub read : (s : List ℕ) (own : Address) → Only (λ (r : Message). r ≡ readOf s own)
+  pub read : (s : List ℕ) (own : Address) → Only (ReadPromise s own)
   pub heard-as : (s : List ℕ) → Only (λ (r : MessageKind). r ≡ heardAs s)
   pub is-extended : (s : List ℕ) → Only (λ (r : Bool). r ≡ isExtended s)
   pub is-fit : (l : List ℕ) → Only (λ (r : Bool). r ≡ isFit l)

@@ -14,10 +14,10 @@ ghost use Rattle.shared.specs.Extended.{getDeed, setDeed, recordDeed, da
 pub(crate) fn database_deed(r: Request, data: [u8; 14], records: usize) -> Deed
     ensures { λ deed. ⌜ deed ≡ databaseDeed r «data» records ⌝ }
 {
-    if r.command2 == 0x00 {
-        record_deed(data, records)
-    } else {
-        Deed::Unlisted
+    let command2 = r.command2;
+    match command2 {
+        0x00 => record_deed(data, records),
+        _ => Deed::Unlisted,
     }
 }
 

@@ -14,10 +14,10 @@ ghost use Rattle.shared.specs.Extended.{propertyDeed, propertiesDeed, sh
 pub(crate) fn properties_deed(r: Request, data: [u8; 14]) -> Deed
     ensures { λ deed. ⌜ deed ≡ propertiesDeed r «data» ⌝ }
 {
-    if r.command2 == 0x00 {
-        property_deed(data)
-    } else {
-        Deed::Unlisted
+    let command2 = r.command2;
+    match command2 {
+        0x00 => property_deed(data),
+        _ => Deed::Unlisted,
     }
 }
 

@@ -1,6 +1,7 @@
 -- What Command 1 asks for.
 use Prim.Native.Nat.{ℕ}
 use mathlib.Core.List.{List, [], _∷_}
+use lib.Dec.{leb}
 use Rattle.basis.specs.Choice.{choose}
 use Rattle.basis.specs.Numbers.{within}
 use Rattle.basis.specs.Table.{Row, among, _⇒_}
@@ -46,9 +47,9 @@ extendeds =
 abbrev pub extendedOf : ℕ → Extended
 extendedOf command1 = among command1 Extended.Unlisted extendeds
 
--- "Groups": 11 and 12 turn on, 13 and 14 off
+-- "Groups": of 11 to 14 the first two turn on, the others off
+abbrev pub turnOf : ℕ → GroupCommand
+turnOf command1 = choose (leb command1 0x12) GroupCommand.On GroupCommand.Off
+
 unfoldable pub groupCommandOf : ℕ → GroupCommand
-groupCommandOf command1 =
-    choose (within 0x11 0x12 command1) GroupCommand.On
-    (choose (within 0x13 0x14 command1) GroupCommand.Off
-    GroupCommand.Unlisted)
+groupCommandOf command1 = choose (within 0x11 0x14 command1) (turnOf command1) GroupCommand.Unlisted

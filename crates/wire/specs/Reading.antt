@@ -1,5 +1,6 @@
 -- What a message is read into: results 1, 3 and 4, in this order, or its kind ("Result numbers").
 use Prim.Native.Nat.{ℕ}
+use mathlib.Core.Path.{_≡_}
 use mathlib.Core.Bool.{Bool, _&&_, not}
 use mathlib.Core.List.{List}
 use lib.ListN.{replicate}
@@ -27,3 +28,23 @@ readOf s own =
     (choose (isSumWrong s) (bare Reading.BadSum)
     (record { reading = Reading.Heard (kindOf s); «data» = dataOf s })))
     (bare Reading.BadLength)
+
+-- the number of the refusal that applies first, and 0 where none does
+abbrev pub refusalOf : List ℕ → Address → ℕ
+refusalOf s own = choose (isWhole s) (choose (isForeign s own) 3 (choose (isSumWrong s) 4 0)) 1
+
+-- the paper's number of each case that a message is read into: 0 where it is no refusal
+abbrev pub kindNumber : MessageKind → ℕ
+kindNumber (MessageKind.Direct r command) = 0
+kindNumber (MessageKind.Cleanup r command) = 0
+kindNumber (MessageKind.Broadcast from to command) = 0
+kindNumber MessageKind.Foreign = 3
+
+abbrev pub readingNumber : Reading → ℕ
+readingNumber (Reading.Heard kind) = kindNumber kind
+readingNumber Reading.BadLength = 1
+readingNumber Reading.BadSum = 4
+
+pub record ReadPromise (s : List ℕ) (own : Address) (r : Message) : Type 0 where
+  pub message : r ≡ readOf s own
+  pub number : readingNumber (r .reading) ≡ refusalOf s own

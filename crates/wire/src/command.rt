@@ -1,7 +1,7 @@
 // What a message asks for, by its Command 1. Whether a module takes the command, and the Command 2 that came with it, is the
 // module's to say; what no row of the paper names is `Unlisted`.
 ghost use mathlib.Core.Path.{_≡_};
-ghost use Rattle.wire.specs.Commands.{standardOf, extendedOf, groupCommandOf};
+ghost use Rattle.wire.specs.Commands.{standardOf, extendedOf, turnOf, groupCommandOf};
 
 // "Direct commands, standard": those that need no link, those that every module takes, and those to its load.
 pub enum Standard {
@@ -96,8 +96,18 @@ pub(crate) fn group_command_of(command1: u8) -> GroupCommand
     ensures { λ r. ⌜ r ≡ groupCommandOf command1 ⌝ }
 {
     match command1 {
-        0x11..=0x12 => GroupCommand::On,
-        0x13..=0x14 => GroupCommand::Off,
+        0x11..=0x14 => turn_of(command1),
         _ => GroupCommand::Unlisted,
+    }
+}
+
+// 11 and 12 turn on, 13 and 14 off.
+fn turn_of(command1: u8) -> GroupCommand
+    ensures { λ r. ⌜ r ≡ turnOf command1 ⌝ }
+{
+    if command1 <= 0x12 {
+        GroupCommand::On
+    } else {
+        GroupCommand::Off
     }
 }

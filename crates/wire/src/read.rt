@@ -16,11 +16,11 @@ ghost use lib.ListN.{length};
 ghost use Rattle.wire.specs.Bytes.{addressAt, requestOf, isExtended, isWhole, dataOf};
 ghost use Rattle.wire.specs.Kinds.{isUnheard, isAstray, isForeign, kindOf, heardAs, commandOf};
 ghost use Rattle.wire.specs.Checksum.{isSumWrong};
-ghost use Rattle.wire.specs.Reading.{readOf, bare};
+ghost use Rattle.wire.specs.Reading.{bare, ReadPromise};
 
 // A message that reached the module whose address is `own`, in the order of "Result numbers": 1, 3, 4, then its kind.
 pub fn read(message: &[u8], own: Address) -> Message
-    ensures { λ r. ⌜ r ≡ readOf (now (message .entry)) own ⌝ }
+    ensures { λ r. ⌜ ReadPromise (now (message .entry)) own r ⌝ }
 {
     if !is_whole(message) {
         return bare(Reading::BadLength);

@@ -9,7 +9,7 @@ returns c =
     let ruled = c .before .before .before .before .before .before .before .before in
     let read = ruled .before .before .before in
     let g = read .before .before .before .before .before .before .args in
-    let decided = rw (read .read .ensures) at (ruled .ruling-by .ensures) in
+    let decided = rw (read .read .ensures .message) at (ruled .ruling-by .ensures) in
     let sent = rw (c .enum-told .given .1) at (c .before .before .before .before .send .ensures) in
     short (g .m) (g .links .now) (g .message .now) (g .room .now) (ruled .ruling-by .result) decided _ sent
 
@@ -18,10 +18,10 @@ returns-2 c =
     let ruled = c .before .before .before .before .before .before .before .before .before .before .before .before .before in
     let read = ruled .before .before .before in
     let g = read .before .before .before .before .before .before .args in
-    let decided = rw (read .read .ensures) at (ruled .ruling-by .ensures) in
+    let decided = rw (read .read .ensures .message) at (ruled .ruling-by .ensures) in
     let n = c .before .before .before .before .before .n .given in
     let sent = rw (n .1) at (c .before .before .before .before .before .before .before .before .before .send .ensures) in
-    let done = rw (read .read .ensures) at (c .before .before .commit .ensures) in
+    let done = rw (read .read .ensures .message) at (c .before .before .commit .ensures) in
     whole (g .m) (g .links .now) (g .message .now) (g .room .now) (ruled .ruling-by .result) decided (n .0 .0) _ _ _ (done .0) (done .1) sent
 
 pub step-spec : {M : Type 1} → statement M

@@ -1,4 +1,4 @@
-use borrow.Author.Tests.{eq-eqb, ne-eqb}
+use borrow.Author.Tests.{ne-eqb}
 use Rattle.basis.specs.Choice.{choose}
 use Rattle.shared.specs.Extended.{propertiesDeed}
 use borrow.Author.Needs.{needs}
@@ -11,5 +11,5 @@ properties-deed-spec =
     tie.close
     (tie.spec
     (λ c κs. search needs)
-    (λ c. rw (eq-eqb _ 0x00 (c .before .if1 .taken)) (c .property-deed .ensures))
-    (λ c. rw (ne-eqb _ 0x00 (c .if1 .left))))
+    (λ c. rw (c .before .match .keys1) (c .property-deed .ensures))
+    (λ c. rw (ne-eqb _ 0x00 (c .match .rest .1))))

@@ -9,6 +9,7 @@ use Rattle.wire.specs.Kinds.{isForeign}
 use Rattle.wire.specs.Checksum.{isSumWrong}
 use Rattle.wire.specs.Reading.{readOf}
 use Rattle.wire.proofs.Whole.{enough}
+use Rattle.wire.proofs.Numbered.{promised}
 use Rattle.wire.proofs.read.read.Statement.{statement}
 use Rattle.wire.proofs.read.read.Tie as tie
 
@@ -24,24 +25,32 @@ sum-right c = sym (c .before .is-sum-wrong .ensures) ∙ c .if3 .left
 
 returns : tie.Need-returns
 unfolding readOf choose
-returns c = rw (sym (c .before .before .is-whole .ensures) ∙ not-true _ (c .before .if1 .taken)) (c .bare .ensures)
+returns c =
+    let g = c .before .before .before .before .args in
+    promised (g .message .now) (g .own) _ (rw (sym (c .before .before .is-whole .ensures) ∙ not-true _ (c .before .if1 .taken)) (c .bare .ensures))
 
 returns-2 : tie.Need-returns-2
 unfolding readOf choose
 returns-2 c =
-    rw (is-whole (c .before .before .before), sym (c .before .before .is-foreign .ensures) ∙ c .before .if2 .taken)
-    (c .bare2 .ensures)
+    let g = c .before .before .before .before .before .before .args in
+    promised (g .message .now) (g .own) _
+    (rw (is-whole (c .before .before .before), sym (c .before .before .is-foreign .ensures) ∙ c .before .if2 .taken)
+    (c .bare2 .ensures))
 
 returns-3 : tie.Need-returns-3
 unfolding readOf choose
 returns-3 c =
-    rw (is-whole (c .before .before .before .before .before), not-foreign (c .before .before .before), sym (c .before .before .is-sum-wrong .ensures) ∙ c .before .if3 .taken)
-    (c .bare3 .ensures)
+    let g = c .before .before .before .before .before .before .before .before .args in
+    promised (g .message .now) (g .own) _
+    (rw (is-whole (c .before .before .before .before .before), not-foreign (c .before .before .before), sym (c .before .before .is-sum-wrong .ensures) ∙ c .before .if3 .taken)
+    (c .bare3 .ensures))
 
 returns-4 : tie.Need-returns-4
 unfolding readOf choose
 returns-4 c =
-    rw (is-whole (c .before .before .before .before .before .before), not-foreign (c .before .before .before .before), sum-right (c .before .before), c .before .kind-of .ensures, c .data-of .ensures)
+    let g = c .before .before .before .before .before .before .before .before .before .args in
+    promised (g .message .now) (g .own) _
+    (rw (is-whole (c .before .before .before .before .before .before), not-foreign (c .before .before .before .before), sum-right (c .before .before), c .before .kind-of .ensures, c .data-of .ensures))
 
 pub read-spec : {M : Type 1} → statement M
 read-spec =

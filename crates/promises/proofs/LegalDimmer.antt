@@ -64,7 +64,7 @@ module _ (m : Module) (lamp : Lamp) (l s : List ℕ) where
   leaves e (clear-flag x b y z) = rw (long-command s 0x20 x)
   leaves e (set-x10 x) = rw (long-command s 0x2e (x .0), x .1, x .2)
   leaves e (set-led x y z) = rw (long-command s 0x2e (x .0), x .1, x .2)
-  leaves e (get-database x k y) = rw (long-command s 0x2f (x .0))
+  leaves e (get-database x k y n z) = rw (long-command s 0x2f (x .0))
   leaves e (set-database x k y z v) = rw (long-command s 0x2f (x .0))
 
   -- a command is a row, or it is not listed, or it is left to the rows of all kinds

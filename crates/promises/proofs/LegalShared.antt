@@ -1,8 +1,8 @@
 -- The rows that every kind has: a legal command brings its effect about, and any other is not listed.
-use Prim.Native.Nat.{ℕ, _+_, _*_, _/_, _%_, _≤_, _<_}
+use Prim.Native.Nat.{ℕ, zero, suc, _+_, _*_, _/_, _%_, _≤_, _<_}
 use mathlib.Core.Path.{_≡_, refl, sym, _∙_, ap}
 use mathlib.Core.Bool.{Bool, true, false}
-use mathlib.Core.List.{List}
+use mathlib.Core.List.{List, _++_}
 use native.Mathlib.Omega.{arith}
 use lib.Dec.{eqb}
 use lib.ListN.{length, take, drop, length-take}
@@ -15,7 +15,7 @@ use Rattle.basis.proofs.Spelled.{spelled-from}
 use Rattle.wire.specs.declared.command.Standard.{Standard}
 use Rattle.wire.specs.declared.command.Extended.{Extended}
 use Rattle.wire.specs.declared.command.Command.{Command}
-use Rattle.wire.specs.Bytes.{command1Of, command2Of, requestOf, dataAt, dataOf, isExtended, isWhole}
+use Rattle.wire.specs.Bytes.{fromOf, command1Of, command2Of, requestOf, dataAt, dataOf, isExtended, isWhole}
 use Rattle.wire.specs.Commands.{standards, extendeds, standardOf, extendedOf}
 use Rattle.wire.proofs.Whole.{by-length}
 use Rattle.links.specs.declared.name.Place.{Place}
@@ -24,6 +24,8 @@ use Rattle.links.specs.Name.{placeOf}
 use Rattle.links.specs.Write.{written, writtenIfThere}
 use Rattle.links.proofs.Named
 use Rattle.links.proofs.Written
+use Rattle.reply.specs.Records.{recordsFrom, countSent}
+use Rattle.reply.proofs.Positions.{counted, only}
 use Rattle.module.specs.declared.state.Module.{Module}
 use Rattle.module.specs.declared.deed.Deed.{Deed}
 use Rattle.module.specs.Deed.{limited}
@@ -32,7 +34,7 @@ use Rattle.module.proofs.Limited.{by-limits}
 use Rattle.shared.specs.Standard.{flagsTold, standardDeed}
 use Rattle.shared.specs.Extended.{flagsDeed, propertyDeed, propertiesDeed, getDeed, setDeed, recordDeed, databaseDeed, extendedDeed}
 use Rattle.shared.specs.Table.{sharedDeed}
-use Rattle.promises.specs.Legal.{Effect, Short, Shared, ping, id-request, engine-version, flags, delta, beep, set-flag, clear-flag, set-x10, set-led, get-database, set-database}
+use Rattle.promises.specs.Legal.{Effect, Short, shows, upward, Shared, ping, id-request, engine-version, flags, delta, beep, set-flag, clear-flag, set-x10, set-led, get-database, set-database}
 use Rattle.promises.proofs.Ruled.{commandIn}
 use Rattle.promises.proofs.Brings.{Brings, short-command, long-command}
 
@@ -42,6 +44,12 @@ module _ (m : Module) (l s : List ℕ) where
 
   abbrev address : ℕ
   address = dataAt s 3 * 256 + dataAt s 4
+
+  -- the records are laid one by one
+  as-upward : (n k : ℕ) → recordsFrom (m .identity .address) (fromOf s) (dataAt s 1) l n k ≡ upward m l s n k
+  unfolding recordsFrom upward
+  as-upward zero k = refl
+  as-upward (suc n) k = ap (λ (z : List ℕ). shows m l s k ++ z) (as-upward n (k + 1))
 
   module _ (w : isWhole s ≡ true) where
     names-record : (k : ℕ) → (k < records l) × (address + 8 * k ≡ 0x0fff) → placeOf (records l) address ≡ Place.Record k
@@ -76,7 +84,9 @@ module _ (m : Module) (l s : List ℕ) where
         rw (long-command s 0x20 x, le-leb 0x00 t (omega arith), le-leb t 0x0f (omega arith), ne-eqb (t % 2) 0 (omega arith), half) (record { done = refl; next = refl; links = refl; reply = refl })
     shared-brings e (set-x10 x) = rw (long-command s 0x2e (x .0), x .1, x .2) (record { done = refl; next = refl; links = refl; reply = refl })
     shared-brings e (set-led x y z) = rw (long-command s 0x2e (x .0), x .1, x .2, le-leb 0x11 (dataAt s 3) y, le-leb (dataAt s 3) 0x7f z) (record { done = refl; next = refl; links = refl; reply = refl })
-    shared-brings e (get-database x k y) = rw (long-command s 0x2f (x .0), x .1, x .2, names-record k y) (record { done = refl; next = refl; links = refl; reply = refl })
+    shared-brings e (get-database x k y n z) =
+        let all : countSent l k (dataAt s 5) ≡ n = only l k (dataAt s 5) _ n (counted l k (dataAt s 5) (y .0)) z in
+        rw (long-command s 0x2f (x .0), x .1, x .2, names-record k y) (record { done = refl; next = refl; links = refl; reply = rw (all, as-upward n k) })
     shared-brings e (set-database x k y z v) =
         rw (long-command s 0x2f (x .0), x .1, x .2, names-record k y, le-leb 1 (dataAt s 5) z, le-leb (dataAt s 5) 8 v)
         (record { done = refl; next = refl; links = write-there k (x .0 .0) (y .0) v; reply = refl })
@@ -143,7 +153,9 @@ module _ (m : Module) (l s : List ℕ) where
 
     module _ (y : command1Of s ≡ 0x2f) where
       get-judged : command2Of s ≡ 0x00 → dataAt s 2 ≡ 0x00 → (place : Place) → placeOf (records l) address ≡ place → SharedJudged (getDeed (dataOf s) place)
-      get-judged z w (Place.Record k) e = listed _ (get-database ((x, y), z, w) k (Named.named (records l) address k e))
+      get-judged z w (Place.Record k) e =
+          let there = Named.named (records l) address k e in
+          listed _ (get-database ((x, y), z, w) k there _ (counted l k (dataAt s 5) (there .0)))
       get-judged z w Place.Illegal e = other refl
 
       set-judged : command2Of s ≡ 0x00 → dataAt s 2 ≡ 0x02 → (place : Place) → placeOf (records l) address ≡ place → SharedJudged (setDeed (dataOf s) place)

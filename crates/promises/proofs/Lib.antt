@@ -12,3 +12,4 @@ pub mod Room
 pub mod Demand3
 pub mod Lent
 pub mod OneAnswer
+pub mod Flags

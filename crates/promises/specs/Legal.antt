@@ -1,20 +1,20 @@
 -- Demand 2's last sentence: the legal direct commands, each with its effect and its reply, stated on their own. These rows every kind has.
-use Prim.Native.Nat.{ℕ, _+_, _*_, _≤_, _<_}
+use Prim.Native.Nat.{ℕ, zero, suc, _+_, _-_, _*_, _/_, _%_, _≤_, _<_}
 use mathlib.Core.Path.{_≡_}
 use mathlib.Core.Bool.{true, false}
-use mathlib.Core.List.{List, _++_}
+use mathlib.Core.List.{List, [], _∷_, _++_}
 use lib.ListN.{take, drop}
 use Rattle.basis.specs.Flags.{setBit, clearBit}
 use Rattle.basis.specs.Laid.{laid}
 use Rattle.wire.specs.Bytes.{fromOf, command1Of, command2Of, dataAt, isExtended}
 use Rattle.wire.specs.Kinds.{isDirect}
 use Rattle.wire.specs.Reading.{wellFormed}
-use Rattle.links.specs.Record.{isFit, records}
+use Rattle.links.specs.Record.{isFit, records, recordAt}
 use Rattle.links.specs.Live.{Linked}
 use Rattle.links.specs.Write.{written}
 use Rattle.reply.specs.declared.due.ReplyType.{ReplyType}
-use Rattle.reply.specs.Message.{standard}
-use Rattle.reply.specs.Records.{recordsFrom, countSent}
+use Rattle.reply.specs.Message.{standard, extended}
+use Rattle.reply.specs.Positions.{SentFrom}
 use Rattle.results.specs.Number.{numberOf}
 use Rattle.module.specs.declared.state.Module.{Module}
 use Rattle.module.specs.Change.{withFlags, withLed, withX10, nextDelta}
@@ -58,6 +58,23 @@ module _ (m : Module) (s : List ℕ) where
       standard (m .identity .address) (record { high = m .identity .category; middle = m .identity .subcategory; low = m .identity .firmware })
       ReplyType.IdBroadcast 0x01 (m .identity .revision)
 
+-- records of link memory l
+module _ (m : Module) (l s : List ℕ) where
+  -- the address that names record k
+  abbrev name : ℕ → ℕ
+  name k = 0x0fff - 8 * k
+
+  -- the message that shows it: Data 1 as sent, 01, its address, 00, its eight bytes, 00
+  abbrev pub shows : ℕ → List ℕ
+  shows k =
+      extended (m .identity .address) (fromOf s) 0x2f
+      (dataAt s 1 ∷ 0x01 ∷ name k / 256 ∷ name k % 256 ∷ 0x00 ∷ (recordAt l k ++ (0x00 ∷ [])))
+
+  -- n of them upward from k, each directly after the one before it
+  unfoldable pub upward : ℕ → ℕ → List ℕ
+  upward zero k = []
+  upward (suc n) k = shows k ++ upward n (k + 1)
+
 -- the module becomes another, and the ACK repeats both commands
 abbrev pub becomes : Module → List ℕ → List ℕ → Module → Effect
 becomes m l s next = record { next = next; links = l; reply = repeated m s }
@@ -84,8 +101,8 @@ module _ (m : Module) (l s : List ℕ) where
     clear-flag : Long s 0x20 → (b : ℕ) → b ≤ 7 → command2Of s ≡ 2 * b + 1 → Shared (to (withFlags (clearBit b (m .flags)) m))
     set-x10 : Asks s 0x2e 0x04 → Shared (to (withX10 (dataAt s 3) (dataAt s 4) m))
     set-led : Asks s 0x2e 0x07 → 0x11 ≤ dataAt s 3 → dataAt s 3 ≤ 0x7f → Shared (to (withLed (dataAt s 3) m))
-    get-database : Asks s 0x2f 0x00 → (k : ℕ) → Names s l k
-        → Shared (tells (repeated m s ++ recordsFrom (m .identity .address) (fromOf s) (dataAt s 1) l (countSent l k (dataAt s 5)) k))
+    get-database : Asks s 0x2f 0x00 → (k : ℕ) → Names s l k → (n : ℕ) → SentFrom l k (dataAt s 5) n
+        → Shared (tells (repeated m s ++ upward m l s n k))
     set-database : Asks s 0x2f 0x02 → (k : ℕ) → Names s l k → 1 ≤ dataAt s 5 → dataAt s 5 ≤ 8
         → Shared (record { next = nextDelta m; links = written l k (take (dataAt s 5) (drop 14 s)); reply = repeated m s })
 

@@ -13,3 +13,4 @@ pub mod LegalDimmer
 pub mod LegalAny
 pub mod Room
 pub mod Lent
+pub mod Flags

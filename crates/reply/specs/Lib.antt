@@ -3,3 +3,4 @@ pub mod Message
 pub mod Records
 pub mod Reply
 pub mod Sending
+pub mod Positions

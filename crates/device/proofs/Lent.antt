@@ -1,7 +1,6 @@
 -- A room matters by its length alone, so one room may be lent again and again.
-use Prim.Native.Nat.{ℕ, _+_, _≤_}
-use mathlib.Core.Path.{_≡_, refl, sym, _∙_, ap}
-use mathlib.Core.Bool.{Bool, true, false}
+use Prim.Native.Nat.{ℕ}
+use mathlib.Core.Path.{_≡_, refl, _∙_, ap}
 use mathlib.Core.List.{List, [], _∷_, map}
 use native.Mathlib.Omega.{arith}
 use lib.Dec.{ltb}
@@ -11,7 +10,7 @@ use Rattle.basis.proofs.Choice.{by, beside}
 use Rattle.reply.specs.Reply.{replyOf}
 use Rattle.decide.specs.Ruling.{rulingOf}
 use Rattle.device.specs.Step.{Step}
-use Rattle.device.specs.Run.{State, Said, callOf, leftBy, saidOf, runOf, endOf, callsOf, lentCall, lentOf, lentEnd}
+use Rattle.device.specs.Run.{State, Said, leftBy, saidOf, runOf, endOf, callsOf, lentCall, lentOf, lentEnd}
 
 module _ (s : State) (message : List ℕ) where
   -- the reply that is due, whatever the room

@@ -23,7 +23,6 @@ use Rattle.reply.specs.Message.{standard}
 use Rattle.reply.specs.Reply.{replyOf}
 use Rattle.module.specs.declared.state.Identity.{Identity}
 use Rattle.module.specs.declared.state.Module.{Module}
-use Rattle.module.specs.declared.change.Change.{Change}
 use Rattle.module.specs.declared.deed.Ack.{Ack}
 use Rattle.module.specs.declared.deed.Deed.{Deed}
 use Rattle.module.specs.declared.plan.Plan.{Plan}

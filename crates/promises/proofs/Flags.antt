@@ -1,8 +1,7 @@
 -- The flag rule, bit by bit, of a command that is taken.
-use Prim.Native.Nat.{ℕ}
-use mathlib.Core.Path.{_≡_, sym, ap, subst}
+use mathlib.Core.Path.{sym, ap, subst}
 use native.Mathlib.Omega.{arith}
-use Rattle.basis.specs.Flags.{setBit, clearBit, SetIn, ClearIn}
+use Rattle.basis.specs.Flags.{SetIn, ClearIn}
 use Rattle.basis.proofs.Bits.{sets, clears}
 use Rattle.module.specs.declared.state.Module.{Module}
 use Rattle.promises.specs.Legal.{set-flag, clear-flag}

@@ -13,3 +13,5 @@ pub mod Demand3
 pub mod Lent
 pub mod OneAnswer
 pub mod Flags
+pub mod Steers
+pub mod Longest

@@ -14,3 +14,4 @@ pub mod LegalAny
 pub mod Room
 pub mod Lent
 pub mod Flags
+pub mod Steers

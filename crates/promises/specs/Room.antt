@@ -1,9 +1,11 @@
 -- Room enough ("Result numbers", "The program").
 use Prim.Native.Nat.{ℕ, _≤_, _<_}
 use mathlib.Core.Path.{_≡_}
+use mathlib.Core.Bool.{true}
 use mathlib.Core.List.{List, map}
 use mathlib.Core.Logic.{_↔_}
 use lib.ListN.{length}
+use Rattle.links.specs.Record.{isFit}
 use Rattle.reply.specs.Reply.{replyOf}
 use Rattle.results.specs.Number.{numberOf}
 use Rattle.module.specs.declared.state.Module.{Module}
@@ -22,6 +24,14 @@ DecidesFive = (m : Module) (l s room : List ℕ) → (numberOf (stepOf m l s roo
 -- 5,897 bytes hold every reply
 abbrev pub AlwaysEnough : Type 0
 AlwaysEnough = (m : Module) (l s : List ℕ) → length (dueTo m l s) ≤ 5897
+
+-- and a reply of some module, with fit link memory, to some message is as long
+pub record Reached : Type 0 where
+  pub device : Module
+  pub links : List ℕ
+  pub message : List ℕ
+  pub fit : isFit links ≡ true
+  pub long : length (dueTo device links message) ≡ 5897
 
 -- two rooms of one length give equal number, reply, records read, module and link memory
 abbrev pub LengthAlone : Type 0

@@ -11,7 +11,7 @@ use Rattle.basis.specs.Choice.{choose}
 use Rattle.basis.specs.First.{firstFrom}
 use Rattle.basis.proofs.First.{Told, at, nowhere, told}
 use Rattle.basis.proofs.Tests.{clash}
-use Rattle.links.specs.Record.{records, recordAt, isEndMark}
+use Rattle.links.specs.Record.{records}
 use Rattle.reply.specs.Records.{limit, markAt, upToMark, countSent}
 use Rattle.reply.specs.Positions.{Ending, asked, marked, memory-end, SentFrom}
 

@@ -89,21 +89,18 @@ further k x h j =
     let b : eqb (k + j + 1) (length x) ≡ eqb (j + 1) (length (drop k x)) = same _ _ there back in
     rw (getD-drop k x j 0, getD-drop k x (j + 1) 0, a, b)
 
--- what is skipped once need not be looked at again: the bytes before a wait can be dropped
-pub waits-on : (s t : List ℕ) (k : ℕ) → Seen.Waiting k ≡ seekOf s → seekOf (s ++ t) ≡ moved k (seekOf (drop k (s ++ t)))
+-- bytes that stop nowhere can be dropped: what is seen is what is seen behind them
+pub goes-on : (k : ℕ) (x : List ℕ) → k ≤ length x → ((j : ℕ) → j < k → stopsAt x j ≡ false) → seekOf x ≡ moved k (seekOf (drop k x))
 unfolding frameStart choose
-waits-on s t k e =
-    let w = waits s k e in
-    let x : List ℕ = s ++ t in
+goes-on k x h quiet =
     let y : List ℕ = drop k x in
-    let l : length x ≡ length s + length t = length-append s t in
     let n : length y ≡ length x - k = length-drop k x in
-    let m : length x ≡ k + length y = omega (arith, w .lies) in
+    let m : length x ≡ k + length y = omega arith in
     let p : frameStart x ≡ k + frameStart y =
     ap (λ (i : ℕ). firstFrom (stopsAt x) i 0) m
-    ∙ skipped (stopsAt x) k (length y) 0 (λ j a b. still s t j (omega (arith, w .place)))
+    ∙ skipped (stopsAt x) k (length y) 0 (λ j a b. quiet j (omega arith))
     ∙ ap (λ (i : ℕ). firstFrom (stopsAt x) (length y) i) (zero-add k ∙ sym (add-zero k))
-    ∙ shifted (stopsAt x) (stopsAt y) k (further k x (omega (arith, w .lies))) (length y) 0 in
+    ∙ shifted (stopsAt x) (stopsAt y) k (further k x h) (length y) 0 in
     let q : k + (frameStart y + 1) ≡ k + frameStart y + 1 = omega arith in
     let z : sizeAt x (k + frameStart y) ≡ sizeAt y (frameStart y) = rw (getD-drop k x (frameStart y + 1) 0, q) in
     rw p (seen k x y (frameStart y) z m)
@@ -118,3 +115,9 @@ waits-on s t k e =
         go false q =
             let h : length y < i + sizeAt y i = leb-false _ _ q in
             cut x (k + i) (omega arith) ∙ ap (moved k) (sym (cut y i h))
+
+-- what is skipped once need not be looked at again: the bytes before a wait can be dropped
+pub waits-on : (s t : List ℕ) (k : ℕ) → Seen.Waiting k ≡ seekOf s → seekOf (s ++ t) ≡ moved k (seekOf (drop k (s ++ t)))
+waits-on s t k e =
+    let w = waits s k e in
+    goes-on k (s ++ t) (omega (arith, length-append s t, w .lies)) (λ j h. still s t j (omega (arith, w .place)))

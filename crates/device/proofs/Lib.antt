@@ -2,3 +2,4 @@
 pub mod Finished
 pub mod Replied
 pub mod Lasting
+pub mod Parts

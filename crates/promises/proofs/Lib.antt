@@ -11,3 +11,4 @@ pub mod Stranger
 pub mod Room
 pub mod Demand3
 pub mod OneAnswer
+pub mod Program

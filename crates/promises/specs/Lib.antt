@@ -12,3 +12,4 @@ pub mod Legal
 pub mod LegalDimmer
 pub mod LegalAny
 pub mod Room
+pub mod Program

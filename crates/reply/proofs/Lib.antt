@@ -1,3 +1,4 @@
 -- Laws of replies.
 pub mod Upward
 pub mod Measured
+pub mod Messages

@@ -1,19 +1,21 @@
 -- What has arrived, cut into its frames: frame by frame, and piece by piece.
 use Prim.Native.Nat.{ℕ, zero, suc, _+_, _≤_, _<_}
 use mathlib.Core.Path.{_≡_, refl, sym, _∙_, ap}
-use mathlib.Core.Bool.{false}
+use mathlib.Core.Bool.{Bool, true, false, _&&_, _||_}
 use mathlib.Core.List.{List, [], _∷_, _++_}
 use native.Mathlib.Nat.{add-assoc}
 use native.Mathlib.Omega.{arith}
-use lib.ListN.{length, take, drop, length-drop}
+use lib.Dec.{eqb}
+use lib.ListN.{length, take, drop, getD, length-drop}
 use lib.Seq.{drop-drop, drop-append-le, take-append-le}
+use borrow.Author.Tests.{ne-eqb}
 use Rattle.basis.specs.Choice.{choose}
 use Rattle.basis.specs.First.{firstFrom}
 use Rattle.modem.specs.declared.arrived.Seen.{Seen}
-use Rattle.modem.specs.Arrived.{stopsAt, frameStart, seekOf}
+use Rattle.modem.specs.Arrived.{startsAt, stopsAt, frameStart, seekOf}
 use Rattle.modem.specs.Stream.{Cut, cutAt, cutBy, cut}
 use Rattle.modem.proofs.Placed.{found, waits}
-use Rattle.modem.proofs.Pieces.{moved, stays, goes-on, waits-on}
+use Rattle.modem.proofs.Pieces.{moved, stops, stays, goes-on, waits-on}
 
 -- nothing comes of no bytes
 none : (n : ℕ) (s : List ℕ) → length s ≡ 0 → cutBy n s ≡ record { frames = []; kept = [] }
@@ -27,6 +29,18 @@ shorter : (s : List ℕ) (k n : ℕ) → seekOf s ≡ Seen.Whole k n → length 
 shorter s k n e =
     let f = found s k n (sym e) in
     omega (arith, f .lies, f .least, length-drop (k + n) s)
+
+-- 02 50 or 02 51 stands there
+pub marked : (s : List ℕ) (k n : ℕ) → seekOf s ≡ Seen.Whole k n → startsAt s k ≡ true
+marked s k n e =
+    let f = found s k n (sym e) in
+    let here : stopsAt s k ≡ true = rw (f .place) (stops s (omega (arith, f .place, f .lies, f .least))) in
+    let more : eqb (k + 1) (length s) ≡ false = ne-eqb (k + 1) (length s) (λ q. omega (arith, f .lies, f .least)) in
+    not-last (eqb (getD s k 0) 0x02) (startsAt s k) (rw more at here)
+  where
+    not-last : (a b : Bool) → (a && false) || b ≡ true → b ≡ true
+    not-last true b p = p
+    not-last false b p = p
 
 -- the next frame, and the cut of what stands behind it
 abbrev led : List ℕ → Cut → Cut
@@ -62,7 +76,7 @@ pub whole-first : (s : List ℕ) (k n : ℕ) → seekOf s ≡ Seen.Whole k n
 whole-first s k n e = opened s ∙ ap (cutAt s cut) e
 
 -- what holds of a wait, and of a frame before what it holds of, holds of all that can arrive
-frame-by-frame : (P : List ℕ → Type 0)
+pub frame-by-frame : (P : List ℕ → Type 0)
     → ((s : List ℕ) (k : ℕ) → seekOf s ≡ Seen.Waiting k → P s)
     → ((s : List ℕ) (k n : ℕ) → seekOf s ≡ Seen.Whole k n → P (drop (k + n) s) → P s)
     → (s : List ℕ) → P s

@@ -50,7 +50,7 @@ quiet s j h = go (firstFrom (stopsAt s) (length s) 0) (told (stopsAt s) (length 
     go k (Told.nowhere w) h = w .never j (omega arith) (omega (arith, w .behind))
 
 -- the first one does, where it is one
-stops : (s : List ℕ) → frameStart s < length s → stopsAt s (frameStart s) ≡ true
+pub stops : (s : List ℕ) → frameStart s < length s → stopsAt s (frameStart s) ≡ true
 unfolding frameStart
 stops s h = go (firstFrom (stopsAt s) (length s) 0) (told (stopsAt s) (length s) 0) h
   where

@@ -9,7 +9,6 @@ use lib.Dec.{eqb, leb}
 use lib.ListN.{length, drop, getD, length-append, length-drop, List·getD-append}
 use lib.Seq.{getD-drop}
 use borrow.Author.Tests.{eq-eqb, ne-eqb, eqb-true, eqb-false, leb-true, leb-false}
-use Rattle.basis.specs.Choice.{choose}
 use Rattle.basis.specs.First.{firstFrom}
 use Rattle.basis.proofs.First.{At, Told, told, unique, skipped, shifted}
 use Rattle.basis.proofs.Tests.{clash, same}
@@ -73,7 +72,8 @@ stays s t k n e =
     let l : length (s ++ t) ≡ length s + length t = length-append s t in
     let next : frameStart s + 1 < length s = omega (arith, f .place, f .lies, f .least) in
     let there : stopsAt (s ++ t) (frameStart s) ≡ true = keeps s t (frameStart s) (omega arith) ∙ stops s (omega arith) in
-    let first : At (stopsAt (s ++ t)) (length (s ++ t)) 0 (frameStart s) = record { from = omega arith; inside = omega arith; holds = there; before = λ j a b. still s t j b } in
+    let first : At (stopsAt (s ++ t)) (length (s ++ t)) 0 (frameStart s) =
+    record { from = omega arith; inside = omega arith; holds = there; before = λ j a b. still s t j b } in
     let p : frameStart (s ++ t) ≡ frameStart s = unique (stopsAt (s ++ t)) (length (s ++ t)) 0 (frameStart s) first in
     let z : sizeAt (s ++ t) (frameStart s) ≡ sizeAt s (frameStart s) = rw (List·getD-append s t 0 (frameStart s + 1) next) in
     (λ i. Seen.Whole (f .place i) ((f .size ∙ sym z) i))
@@ -84,14 +84,16 @@ further : (k : ℕ) (x : List ℕ) → k ≤ length x → (j : ℕ) → stopsAt 
 further k x h j =
     let a : k + (j + 1) ≡ k + j + 1 = omega arith in
     let n : length (drop k x) ≡ length x - k = length-drop k x in
-    let there : eqb (k + j + 1) (length x) ≡ true → eqb (j + 1) (length (drop k x)) ≡ true = λ e. eq-eqb (j + 1) (length (drop k x)) (omega (arith, eqb-true (k + j + 1) (length x) e)) in
-    let back : eqb (j + 1) (length (drop k x)) ≡ true → eqb (k + j + 1) (length x) ≡ true = λ e. eq-eqb (k + j + 1) (length x) (omega (arith, eqb-true (j + 1) (length (drop k x)) e)) in
+    let there : eqb (k + j + 1) (length x) ≡ true → eqb (j + 1) (length (drop k x)) ≡ true =
+    λ e. eq-eqb (j + 1) (length (drop k x)) (omega (arith, eqb-true (k + j + 1) (length x) e)) in
+    let back : eqb (j + 1) (length (drop k x)) ≡ true → eqb (k + j + 1) (length x) ≡ true =
+    λ e. eq-eqb (k + j + 1) (length x) (omega (arith, eqb-true (j + 1) (length (drop k x)) e)) in
     let b : eqb (k + j + 1) (length x) ≡ eqb (j + 1) (length (drop k x)) = same _ _ there back in
     rw (getD-drop k x j 0, getD-drop k x (j + 1) 0, a, b)
 
 -- bytes that stop nowhere can be dropped: what is seen is what is seen behind them
 pub goes-on : (k : ℕ) (x : List ℕ) → k ≤ length x → ((j : ℕ) → j < k → stopsAt x j ≡ false) → seekOf x ≡ moved k (seekOf (drop k x))
-unfolding frameStart choose
+unfolding frameStart
 goes-on k x h quiet =
     let y : List ℕ = drop k x in
     let n : length y ≡ length x - k = length-drop k x in

@@ -1,2 +1,3 @@
 -- Laws of what is decided.
 pub mod Sender
+pub mod Heads

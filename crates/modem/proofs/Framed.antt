@@ -1,15 +1,17 @@
 -- The frames of a reply, message by message.
 use Prim.Native.Nat.{ℕ, zero, suc, min, _+_, _-_, _*_, _≤_, _<_}
 use mathlib.Core.Path.{_≡_, refl, sym, _∙_, ap}
-use mathlib.Core.List.{List, [], _∷_, _++_}
+use mathlib.Core.Bool.{true}
+use mathlib.Core.List.{List, [], _∷_, _++_, map, flatten}
 use native.Mathlib.Omega.{arith}
-use lib.ListN.{length, take, drop, length-append, length-drop}
-use lib.Seq.{length-take-le, drop-drop}
+use lib.ListN.{length, take, drop, getD, length-append, length-drop, List·getD-append}
+use lib.Seq.{length-take-le, drop-drop, take-append-seam, drop-append-seam}
+use borrow.Author.Tests.{eqb-true}
 use borrow.Rule.Slice.PartMut.{midOf}
 use Rattle.basis.specs.Choice.{choose}
 use Rattle.basis.proofs.Choice.{either}
 use Rattle.basis.proofs.Laid.{rest}
-use Rattle.wire.specs.Bytes.{isExtended}
+use Rattle.wire.specs.Bytes.{flagsOf, isExtended, isWhole}
 use Rattle.modem.specs.Frames.{frameOf, messageSize, framedBy, framed}
 
 -- a message is nine bytes at least, unless fewer are left
@@ -97,3 +99,28 @@ module _ (s : List ℕ) (a n : ℕ) (h : a < length s) (e : n ≡ messageSize (m
 
   pub longer : length (framed (drop a s)) ≡ 2 + n + length (framed (drop (a + n) s))
   longer = ap length split ∙ length-append (frameOf (midOf a (a + n - a) s)) (framed (drop (a + n) s)) ∙ ap (λ (k : ℕ). k + length (framed (drop (a + n) s))) size
+
+-- a whole message, and what follows it
+module _ (m later : List ℕ) (w : isWhole m ≡ true) where
+  as-long : length m ≡ choose (isExtended m) 23 9
+  as-long = eqb-true (length m) (choose (isExtended m) 23 9) w
+
+  -- its flags are among its first nine bytes
+  same-flags : flagsOf (m ++ later) ≡ flagsOf m
+  same-flags = List·getD-append m later 0 6 (omega (arith, as-long, nine m))
+
+  first-size : messageSize (m ++ later) ≡ length m
+  first-size = rw (same-flags, ← as-long) (omega (arith, length-append m later))
+
+  framed-first : framed (m ++ later) ≡ frameOf m ++ framed later
+  framed-first =
+      let some-bytes : 0 < length (m ++ later) = omega (arith, length-append m later, as-long, nine m) in
+      more (m ++ later) some-bytes ∙ rw (first-size, take-append-seam m later, drop-append-seam m later)
+
+-- the frames of whole messages are these messages, each in its frame
+pub each-framed : (ms : List (List ℕ)) → ((i : ℕ) → i < length ms → isWhole (getD ms i []) ≡ true) → framed (flatten ms) ≡ flatten (map frameOf ms)
+unfolding flatten
+each-framed [] w = none 0 [] refl
+each-framed (m ∷ ms) w =
+    framed-first m (flatten ms) (w 0 (omega arith))
+    ∙ ap (λ (z : List ℕ). frameOf m ++ z) (each-framed ms (λ i h. w (suc i) (omega arith)))

@@ -1,5 +1,6 @@
 -- Laws of frames.
 pub mod Placed
 pub mod Pieces
+pub mod Cut
 pub mod Framed
 pub mod Turned

@@ -9,7 +9,6 @@ use lib.Dec.{eqb, leb}
 use lib.ListN.{length, drop, getD, length-append, length-drop, List·getD-append}
 use lib.Seq.{getD-drop}
 use borrow.Author.Tests.{eq-eqb, ne-eqb, eqb-true, eqb-false, leb-true, leb-false}
-use Rattle.basis.specs.Choice.{choose}
 use Rattle.basis.specs.First.{firstFrom}
 use Rattle.basis.proofs.First.{At, Told, told, unique, skipped, shifted}
 use Rattle.basis.proofs.Tests.{clash, same}
@@ -50,7 +49,7 @@ quiet s j h = go (firstFrom (stopsAt s) (length s) 0) (told (stopsAt s) (length 
     go k (Told.nowhere w) h = w .never j (omega arith) (omega (arith, w .behind))
 
 -- the first one does, where it is one
-stops : (s : List ℕ) → frameStart s < length s → stopsAt s (frameStart s) ≡ true
+pub stops : (s : List ℕ) → frameStart s < length s → stopsAt s (frameStart s) ≡ true
 unfolding frameStart
 stops s h = go (firstFrom (stopsAt s) (length s) 0) (told (stopsAt s) (length s) 0) h
   where
@@ -73,7 +72,8 @@ stays s t k n e =
     let l : length (s ++ t) ≡ length s + length t = length-append s t in
     let next : frameStart s + 1 < length s = omega (arith, f .place, f .lies, f .least) in
     let there : stopsAt (s ++ t) (frameStart s) ≡ true = keeps s t (frameStart s) (omega arith) ∙ stops s (omega arith) in
-    let first : At (stopsAt (s ++ t)) (length (s ++ t)) 0 (frameStart s) = record { from = omega arith; inside = omega arith; holds = there; before = λ j a b. still s t j b } in
+    let first : At (stopsAt (s ++ t)) (length (s ++ t)) 0 (frameStart s) =
+    record { from = omega arith; inside = omega arith; holds = there; before = λ j a b. still s t j b } in
     let p : frameStart (s ++ t) ≡ frameStart s = unique (stopsAt (s ++ t)) (length (s ++ t)) 0 (frameStart s) first in
     let z : sizeAt (s ++ t) (frameStart s) ≡ sizeAt s (frameStart s) = rw (List·getD-append s t 0 (frameStart s + 1) next) in
     (λ i. Seen.Whole (f .place i) ((f .size ∙ sym z) i))
@@ -84,26 +84,25 @@ further : (k : ℕ) (x : List ℕ) → k ≤ length x → (j : ℕ) → stopsAt 
 further k x h j =
     let a : k + (j + 1) ≡ k + j + 1 = omega arith in
     let n : length (drop k x) ≡ length x - k = length-drop k x in
-    let there : eqb (k + j + 1) (length x) ≡ true → eqb (j + 1) (length (drop k x)) ≡ true = λ e. eq-eqb (j + 1) (length (drop k x)) (omega (arith, eqb-true (k + j + 1) (length x) e)) in
-    let back : eqb (j + 1) (length (drop k x)) ≡ true → eqb (k + j + 1) (length x) ≡ true = λ e. eq-eqb (k + j + 1) (length x) (omega (arith, eqb-true (j + 1) (length (drop k x)) e)) in
+    let there : eqb (k + j + 1) (length x) ≡ true → eqb (j + 1) (length (drop k x)) ≡ true =
+    λ e. eq-eqb (j + 1) (length (drop k x)) (omega (arith, eqb-true (k + j + 1) (length x) e)) in
+    let back : eqb (j + 1) (length (drop k x)) ≡ true → eqb (k + j + 1) (length x) ≡ true =
+    λ e. eq-eqb (k + j + 1) (length x) (omega (arith, eqb-true (j + 1) (length (drop k x)) e)) in
     let b : eqb (k + j + 1) (length x) ≡ eqb (j + 1) (length (drop k x)) = same _ _ there back in
     rw (getD-drop k x j 0, getD-drop k x (j + 1) 0, a, b)
 
--- what is skipped once need not be looked at again: the bytes before a wait can be dropped
-pub waits-on : (s t : List ℕ) (k : ℕ) → Seen.Waiting k ≡ seekOf s → seekOf (s ++ t) ≡ moved k (seekOf (drop k (s ++ t)))
-unfolding frameStart choose
-waits-on s t k e =
-    let w = waits s k e in
-    let x : List ℕ = s ++ t in
+-- bytes that stop nowhere can be dropped: what is seen is what is seen behind them
+pub goes-on : (k : ℕ) (x : List ℕ) → k ≤ length x → ((j : ℕ) → j < k → stopsAt x j ≡ false) → seekOf x ≡ moved k (seekOf (drop k x))
+unfolding frameStart
+goes-on k x h quiet =
     let y : List ℕ = drop k x in
-    let l : length x ≡ length s + length t = length-append s t in
     let n : length y ≡ length x - k = length-drop k x in
-    let m : length x ≡ k + length y = omega (arith, w .lies) in
+    let m : length x ≡ k + length y = omega arith in
     let p : frameStart x ≡ k + frameStart y =
     ap (λ (i : ℕ). firstFrom (stopsAt x) i 0) m
-    ∙ skipped (stopsAt x) k (length y) 0 (λ j a b. still s t j (omega (arith, w .place)))
+    ∙ skipped (stopsAt x) k (length y) 0 (λ j a b. quiet j (omega arith))
     ∙ ap (λ (i : ℕ). firstFrom (stopsAt x) (length y) i) (zero-add k ∙ sym (add-zero k))
-    ∙ shifted (stopsAt x) (stopsAt y) k (further k x (omega (arith, w .lies))) (length y) 0 in
+    ∙ shifted (stopsAt x) (stopsAt y) k (further k x h) (length y) 0 in
     let q : k + (frameStart y + 1) ≡ k + frameStart y + 1 = omega arith in
     let z : sizeAt x (k + frameStart y) ≡ sizeAt y (frameStart y) = rw (getD-drop k x (frameStart y + 1) 0, q) in
     rw p (seen k x y (frameStart y) z m)
@@ -118,3 +117,9 @@ waits-on s t k e =
         go false q =
             let h : length y < i + sizeAt y i = leb-false _ _ q in
             cut x (k + i) (omega arith) ∙ ap (moved k) (sym (cut y i h))
+
+-- what is skipped once need not be looked at again: the bytes before a wait can be dropped
+pub waits-on : (s t : List ℕ) (k : ℕ) → Seen.Waiting k ≡ seekOf s → seekOf (s ++ t) ≡ moved k (seekOf (drop k (s ++ t)))
+waits-on s t k e =
+    let w = waits s k e in
+    goes-on k (s ++ t) (omega (arith, length-append s t, w .lies)) (λ j h. still s t j (omega (arith, w .place)))

@@ -1,14 +1,13 @@
 -- Demand 2, message after message.
 use mathlib.Core.Path.{_≡_, refl, _∙_, ap}
-use mathlib.Core.List.{List, [], _∷_, map}
-use Rattle.device.specs.Step.{Step}
+use mathlib.Core.List.{List, _∷_, map}
 use Rattle.device.specs.Run.{Call, State, callOf, leftBy, runOf, endOf}
+use Rattle.device.proofs.Parts.{run-parts}
 use Rattle.promises.specs.Demand2.{AtEach, Seen, seenOf, seenBy, Served, none, next}
 
 pub at-each : AtEach
-unfolding runOf endOf
-at-each s [] c after = refl
-at-each s (x ∷ before) c after = ap (λ (z : List Step). callOf s x ∷ z) (at-each (leftBy (callOf s x)) before c after)
+unfolding runOf
+at-each s before c after = run-parts s before (c ∷ after)
 
 -- the code's calls are those of the definitions, one by one, and so is the state at the end
 pub served : (s : State) (cs : List Call) (seen : List Seen) (e : State) → Served s cs seen e → (seen ≡ map seenOf (runOf s cs)) × (e ≡ endOf s cs)

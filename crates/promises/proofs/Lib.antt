@@ -15,3 +15,4 @@ pub mod OneAnswer
 pub mod Flags
 pub mod Steers
 pub mod Longest
+pub mod Program

@@ -15,3 +15,4 @@ pub mod Room
 pub mod Lent
 pub mod Flags
 pub mod Steers
+pub mod Program

@@ -2,3 +2,4 @@
 pub mod Upward
 pub mod Measured
 pub mod Positions
+pub mod Messages

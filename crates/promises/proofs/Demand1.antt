@@ -39,7 +39,7 @@ use Rattle.decide.specs.Decide.{wantedOf, directPlan}
 use Rattle.decide.specs.Ruling.{heardBy, kindRuling, readRuling, rulingBy, rulingOf}
 use Rattle.device.specs.Step.{stepOf, servedOf}
 use Rattle.promises.proofs.Ruled.{commandIn}
-use Rattle.promises.specs.Demand1.{Fate, carried-out, silent, not-linked, not-listed}
+use Rattle.promises.specs.Demand1.{Fate, carried-out, silent, not-linked, not-listed, AlwaysFated, AlwaysNumbered}
 
 -- what a plan is that is not carried out: its refusal, by the type of its NAK and the request
 pub data Fair (type : ReplyType) (r : Request) (p : Plan) : Type 0 where
@@ -135,19 +135,25 @@ module _ (m : Module) (l s room : List ℕ) where
   sent r (stranger e) = rw e (not-linked refl (record { same-module = refl; same-links = refl }) (record { reply = refl; room-after = refl }))
   sent r (unknown e) = rw e (not-listed refl (record { same-module = refl; same-links = refl }) (record { reply = refl; room-after = refl }))
 
-  pub fate : Fate m l s room (stepOf m l s room)
-  fate =
+  has-fate : Fate m l s room (stepOf m l s room)
+  has-fate =
       either (Fate m l s room) _
       (silent refl (record { same-module = refl; same-links = refl }) (record { reply = refl; room-after = refl }))
       (sent (rulingOf m l s) (ruling-fair m l s))
 
-pub numbered : (o : Outcome) → numberOf o ≤ 8
-numbered Outcome.Done = omega arith
-numbered Outcome.BadLength = omega arith
-numbered Outcome.BadMemory = omega arith
-numbered Outcome.Foreign = omega arith
-numbered Outcome.BadSum = omega arith
-numbered Outcome.NoRoom = omega arith
-numbered Outcome.NotLinked = omega arith
-numbered Outcome.Unlisted = omega arith
-numbered Outcome.Unconcerned = omega arith
+pub fate : AlwaysFated
+fate m l s room = has-fate m l s room
+
+numbered-outcome : (o : Outcome) → numberOf o ≤ 8
+numbered-outcome Outcome.Done = omega arith
+numbered-outcome Outcome.BadLength = omega arith
+numbered-outcome Outcome.BadMemory = omega arith
+numbered-outcome Outcome.Foreign = omega arith
+numbered-outcome Outcome.BadSum = omega arith
+numbered-outcome Outcome.NoRoom = omega arith
+numbered-outcome Outcome.NotLinked = omega arith
+numbered-outcome Outcome.Unlisted = omega arith
+numbered-outcome Outcome.Unconcerned = omega arith
+
+pub numbered : AlwaysNumbered
+numbered m l s room = numbered-outcome (stepOf m l s room .outcome)

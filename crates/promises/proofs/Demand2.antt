@@ -1,16 +1,15 @@
 -- Demand 2, message after message.
 use mathlib.Core.Path.{_≡_, refl, _∙_, ap}
-use mathlib.Core.List.{List, _∷_, map}
-use Rattle.device.specs.Run.{Call, State, callOf, leftBy, runOf, endOf}
+use mathlib.Core.List.{_∷_, map}
+use Rattle.device.specs.Run.{State, callOf, leftBy, runOf, endOf}
 use Rattle.device.proofs.Parts.{run-parts}
-use Rattle.promises.specs.Demand2.{AtEach, Seen, seenOf, seenBy, Served, none, next}
+use Rattle.promises.specs.Demand2.{AtEach, seenOf, seenBy, none, next, AsDefined}
 
 pub at-each : AtEach
 unfolding runOf
 at-each s before c after = run-parts s before (c ∷ after)
 
--- the code's calls are those of the definitions, one by one, and so is the state at the end
-pub served : (s : State) (cs : List Call) (seen : List Seen) (e : State) → Served s cs seen e → (seen ≡ map seenOf (runOf s cs)) × (e ≡ endOf s cs)
+pub served : AsDefined
 unfolding runOf endOf
 served s cs seen e none = (refl, refl)
 served s cs seen e (next {c = c} {cs = rest} {seen = later} a links room p more) =

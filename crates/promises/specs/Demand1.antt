@@ -1,5 +1,5 @@
 -- Demand 1: every message gets one of the numbered results, and a refusal alters nothing.
-use Prim.Native.Nat.{ℕ}
+use Prim.Native.Nat.{ℕ, _≤_}
 use mathlib.Core.Path.{_≡_}
 use mathlib.Core.Bool.{true, _||_}
 use mathlib.Core.List.{List, []}
@@ -13,7 +13,7 @@ use Rattle.reply.specs.declared.due.ReplyType.{ReplyType}
 use Rattle.reply.specs.Message.{standard}
 use Rattle.results.specs.Number.{numberOf}
 use Rattle.module.specs.declared.state.Module.{Module}
-use Rattle.device.specs.Step.{Step}
+use Rattle.device.specs.Step.{Step, stepOf}
 
 -- the stated NAK: to the sender, with Command 1 repeated
 abbrev pub nakOf : Module → List ℕ → ℕ → List ℕ
@@ -36,3 +36,11 @@ pub data Fate (m : Module) (l s room : List ℕ) (t : Step) : Type 0 where
   silent : within 1 5 (numberOf (t .outcome)) || eqb (numberOf (t .outcome)) 8 ≡ true → Unaltered m l t → Sends room [] t → Fate m l s room t
   not-linked : numberOf (t .outcome) ≡ 6 → Unaltered m l t → Sends room (nakOf m s 0xff) t → Fate m l s room t
   not-listed : numberOf (t .outcome) ≡ 7 → Unaltered m l t → Sends room (nakOf m s 0xfb) t → Fate m l s room t
+
+-- every message to every module, with every link memory and every room, has such a fate
+abbrev pub AlwaysFated : Type 0
+AlwaysFated = (m : Module) (l s room : List ℕ) → Fate m l s room (stepOf m l s room)
+
+-- and its number is one of 0 to 8
+abbrev pub AlwaysNumbered : Type 0
+AlwaysNumbered = (m : Module) (l s room : List ℕ) → numberOf (stepOf m l s room .outcome) ≤ 8

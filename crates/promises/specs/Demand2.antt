@@ -1,7 +1,7 @@
 -- Demand 2, message after message: each call comes to what the definitions say of the state that the calls before it left.
 use Prim.Native.Nat.{ℕ}
 use mathlib.Core.Path.{_≡_}
-use mathlib.Core.List.{List, [], _∷_, _++_}
+use mathlib.Core.List.{List, [], _∷_, _++_, map}
 use lib.ListN.{length}
 use Rattle.results.specs.declared.Outcome.{Outcome}
 use Rattle.device.specs.declared.step.Answer.{Answer}
@@ -34,3 +34,7 @@ pub data Served : State → List Call → List Seen → State → Type 0 where
       → StepPromise (s .device) (s .links) (c .message) (c .room) a links room
       → Served (record { device = a .next; links = links }) cs seen e
       → Served s (c ∷ cs) (seenBy a room ∷ seen) e
+
+-- the code's calls come to what the definitions say, one by one, and so does the state at the end
+abbrev pub AsDefined : Type 0
+AsDefined = (s : State) (cs : List Call) (seen : List Seen) (e : State) → Served s cs seen e → (seen ≡ map seenOf (runOf s cs)) × (e ≡ endOf s cs)

@@ -13,10 +13,11 @@ use Rattle.reply.specs.Reply.{replyOf}
 use Rattle.reply.specs.Sending.{sentOf, Sending}
 use Rattle.results.specs.declared.Outcome.{Outcome}
 use Rattle.module.specs.declared.state.Module.{Module}
+use Rattle.module.specs.declared.plan.Plan.{Plan}
 use Rattle.module.specs.Change.{apply}
 use Rattle.decide.specs.declared.rule.Ruling.{Ruling}
 use Rattle.decide.specs.Ruling.{heardBy, rulingOf}
-use Rattle.device.specs.Step.{linksAfter, StepPromise}
+use Rattle.device.specs.Step.{linksAfter, ifSent, lengthOf, StepPromise}
 
 apart : {A : Type 0} (n : ℕ) → Sent.Short ≡ Sent.Whole n → A
 apart n p = absurd (let z : _≡_ {A = ℕ} 0 1 = cc in omega arith)
@@ -30,7 +31,7 @@ module _ (m : Module) (l s room : List ℕ) (r : Ruling) (e : r ≡ rulingOf m l
   due = replyOf (m .identity .address) l (r .plan .due)
 
   -- too short a room: nothing has happened
-  pub short : (after : List ℕ) → Sending due room Sent.Short after → StepPromise m l s room (record { outcome = Outcome.NoRoom; length = 0; read = r .read; next = m }) l after
+  short : (after : List ℕ) → Sending due room Sent.Short after → StepPromise m l s room (record { outcome = Outcome.NoRoom; length = 0; read = r .read; next = m }) l after
   unfolding sentOf laidIfFits choose
   short after p = go (ltb (length room) (length due)) refl
     where
@@ -39,7 +40,7 @@ module _ (m : Module) (l s room : List ℕ) (r : Ruling) (e : r ≡ rulingOf m l
       go false q = apart (length due) (rw q at (p .answers))
 
   -- room enough: all has happened that was decided
-  pub whole : (n : ℕ) (next : Module) (links after : List ℕ)
+  whole : (n : ℕ) (next : Module) (links after : List ℕ)
       → next ≡ apply (r .plan .change) m
       → links ≡ linksAfter l (heardBy m s .«data») (r .plan .change)
       → Sending due room (Sent.Whole n) after
@@ -60,3 +61,10 @@ module _ (m : Module) (l s room : List ℕ) (r : Ruling) (e : r ≡ rulingOf m l
             memory = rw (← e, q) w;
             room-after = rw (← e, q) (rw q at (p .leaves));
           }
+
+  -- whatever it came to
+  pub finished : (sent : Sent) (after : List ℕ) → Sending due room sent after → (plan : Plan) → plan ≡ ifSent sent (r .plan) → (next : Module) → next ≡ apply (plan .change) m
+      → (links : List ℕ) → links ≡ linksAfter l (heardBy m s .«data») (plan .change)
+      → StepPromise m l s room (record { outcome = plan .outcome; length = lengthOf sent; read = r .read; next = next }) links after
+  finished Sent.Short after p plan q next x links w = rw q (rw (rw q at x, rw q at w) (short after p))
+  finished (Sent.Whole n) after p plan q next x links w = rw q (whole n next links after (rw q at x) (rw q at w) p)

@@ -7,12 +7,16 @@ use lib.ListN.{length, take, drop}
 use Rattle.basis.specs.Choice.{choose}
 use Rattle.basis.specs.Laid.{laid}
 use Rattle.links.specs.Write.{writtenIfThere}
+use Rattle.reply.specs.declared.due.Due.{Due}
+use Rattle.reply.specs.declared.send.Sent.{Sent}
 use Rattle.reply.specs.Reply.{replyOf}
 use Rattle.results.specs.declared.Outcome.{Outcome}
 use Rattle.results.specs.Number.{numberOf}
 use Rattle.module.specs.declared.state.Module.{Module}
 use Rattle.module.specs.declared.change.Change.{Change}
+use Rattle.module.specs.declared.plan.Plan.{Plan}
 use Rattle.module.specs.Change.{apply}
+use Rattle.module.specs.Plan.{refused}
 use Rattle.decide.specs.declared.rule.Ruling.{Ruling}
 use Rattle.device.specs.declared.step.Answer.{Answer}
 use Rattle.decide.specs.Ruling.{heardBy, rulingOf}
@@ -58,6 +62,15 @@ finishOf m l d room r =
 
 abbrev pub stepOf : Module → List ℕ → List ℕ → List ℕ → Step
 stepOf m l s room = finishOf m l (heardBy m s .«data») room (rulingOf m l s)
+
+-- by what sending the reply came to: the plan that stands, and the length
+abbrev pub ifSent : Sent → Plan → Plan
+ifSent (Sent.Whole n) decided = decided
+ifSent Sent.Short decided = refused Outcome.NoRoom Due.Nothing
+
+abbrev pub lengthOf : Sent → ℕ
+lengthOf (Sent.Whole n) = n
+lengthOf Sent.Short = 0
 
 -- what a call promises: its answer, the link memory and the room afterwards
 pub record StepPromise (m : Module) (l s room : List ℕ) (answer : Answer) (links after : List ℕ) : Type 0 where

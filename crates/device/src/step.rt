@@ -2,14 +2,16 @@
 use decide::rule::ruling_by;
 use links::write::write;
 use module::change::Change;
+use module::plan::Plan;
+use module::plan::refused;
 use module::state::Module;
+use reply::due::Due;
 use reply::send::Sent;
 use reply::send::send;
 use results::Outcome;
 use wire::read::read;
 ghost use mathlib.Core.Path.{_≡_};
-ghost use Rattle.module.specs.Change.{apply};
-ghost use Rattle.device.specs.Step.{linksAfter, StepPromise};
+ghost use Rattle.device.specs.Step.{linksAfter, ifSent, lengthOf, StepPromise};
 
 // What a call answers: the reply's length and the module afterwards beside the outcome and the records read.
 pub struct Answer {
@@ -27,42 +29,45 @@ pub fn step(m: Module, links: &mut [u8], message: &[u8], room: &mut [u8]) -> Ans
     let heard = read(message, own);
     let data = heard.data;
     let ruling = ruling_by(m, links, heard);
-    let plan = ruling.plan;
-    let due = plan.due;
-    match send(room, own, links, due) {
-        Sent::Short => Answer {
-            outcome: Outcome::NoRoom,
-            length: 0,
-            read: ruling.read,
-            next: m,
-        },
-        Sent::Whole(n) => {
-            let change = plan.change;
-            let next = commit(m, links, data, change);
-            let outcome = plan.outcome;
-            Answer {
-                outcome: outcome,
-                length: n,
-                read: ruling.read,
-                next: next,
-            }
-        }
+    let decided = ruling.plan;
+    let due = decided.due;
+    let sent = send(room, own, links, due);
+    let plan = if_sent(sent, decided);
+    write_planned(links, data, plan);
+    let outcome = plan.outcome;
+    let change = plan.change;
+    Answer {
+        outcome: outcome,
+        length: length_of(sent),
+        read: ruling.read,
+        next: m.apply(change),
     }
 }
 
-// The one place that alters module and link memory.
-fn commit(m: Module, links: &mut [u8], data: [u8; 14], change: Change) -> Module
-    ensures { λ r. ⌜ r ≡ apply change m ⌝ }
-    ensures { λ _. ⌜ now (links .exit) ≡ linksAfter (now (links .entry)) «data» change ⌝ }
+// Where the reply did not fit, what was decided comes to result 5, and nothing is altered.
+fn if_sent(sent: Sent, decided: Plan) -> Plan
+    ensures { λ r. ⌜ r ≡ ifSent sent decided ⌝ }
 {
-    write_change(links, data, change);
-    m.apply(change)
+    match sent {
+        Sent::Whole(_) => decided,
+        Sent::Short => refused(Outcome::NoRoom, Due::Nothing),
+    }
 }
 
-// The bytes of a write are those from Data 6 on.
-fn write_change(links: &mut [u8], data: [u8; 14], change: Change)
-    ensures { λ _. ⌜ now (links .exit) ≡ linksAfter (now (links .entry)) «data» change ⌝ }
+fn length_of(sent: Sent) -> usize
+    ensures { λ r. ⌜ r ≡ lengthOf sent ⌝ }
 {
+    match sent {
+        Sent::Whole(n) => n,
+        Sent::Short => 0,
+    }
+}
+
+// The one place that alters link memory. The bytes of a write are those from Data 6 on.
+fn write_planned(links: &mut [u8], data: [u8; 14], plan: Plan)
+    ensures { λ _. ⌜ now (links .exit) ≡ linksAfter (now (links .entry)) «data» (plan .change) ⌝ }
+{
+    let change = plan.change;
     match change {
         Change::Nothing => {}
         Change::Flags(_) => {}

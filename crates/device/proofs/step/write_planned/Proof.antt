@@ -7,14 +7,14 @@ use borrow.Kind.Array.{eInt, good-length}
 use mir.Syntax.{w8}
 use Rattle.links.proofs.Written.{too-many}
 use borrow.Author.Needs.{needs}
-use Rattle.device.proofs.step.write_change.Statement.{statement}
-use Rattle.device.proofs.step.write_change.Tie as tie
+use Rattle.device.proofs.step.write_planned.Statement.{statement}
+use Rattle.device.proofs.step.write_planned.Tie as tie
 
 some : (n : ℕ) → 5 + n - 5 ≡ n
 some n = omega arith
 
-pub write-change-spec : {M : Type 1} → statement M
-write-change-spec =
+pub write-planned-spec : {M : Type 1} → statement M
+write-planned-spec =
     tie.close
     (tie.spec
     (λ c. search needs)

@@ -1,13 +1,14 @@
 // One frame: answered, told, and counted.
 use crate::Show;
-use crate::line::put_line;
-use crate::line::put_tally;
 use device::step::Answer;
 use libc::STDOUT_FILENO;
 use modem::serve::Served;
 use modem::serve::serve;
 use module::state::Module;
 use results::number;
+use text::line::Shown;
+use text::line::put_line;
+use text::line::put_tally;
 ghost use Rattle.io.specs.Counts.{Counts};
 
 // The module, how many frames had each result, and whether more frames are served.
@@ -72,9 +73,20 @@ fn tell(show: Show, frame: &[u8], a: Answer, room: &[u8], out: &mut [u8], sent: 
         Show::Frames => write_out(&out[..sent]),
         Show::Lines => {
             let n = a.length;
-            let end = put_line(out, frame, a, &room[..n]);
+            let end = put_line(out, frame, shown(a), &room[..n]);
             write_out(&out[..end])
         }
+    }
+}
+
+fn shown(a: Answer) -> Shown {
+    let outcome = a.outcome;
+    let next = a.next;
+    let lamp = next.load;
+    Shown {
+        result: number(outcome),
+        read: a.read as u64,
+        level: lamp.level,
     }
 }
 

@@ -1,9 +1,6 @@
 // What `bench` and `screen` share: link memory from links.bin, frames from standard input, one module ("The program").
 mod answer;
 mod input;
-mod line;
-mod name;
-mod put;
 mod serve;
 
 use answer::Desk;

@@ -3,3 +3,4 @@ pub mod Finished
 pub mod Replied
 pub mod Lasting
 pub mod Parts
+pub mod RoomAlike

@@ -78,7 +78,9 @@ go-on before p p' l links links' room room' held now now' e o a b =
     let left : List ℕ = take (p .count) now in
     let both : s ++ b .read ≡ take (before .count) held ++ (a .read ++ b .read) = append-assoc (take (before .count) held) (a .read) (b .read) in
     let first = more (before .desk) (p .desk) l room s links left (b .read) (a .served .passed) (a .served .all o) in
-    let passed = then (before .desk) (p .desk) (p' .desk) l links links' room room' e (s ++ b .read) (left ++ b .read) (take (p' .count) now') first (b .served .passed) in
+    let passed =
+    then (before .desk) (p .desk) (p' .desk) l links links' room room' e (s ++ b .read) (left ++ b .read) (take (p' .count) now')
+    first (b .served .passed) in
     record { read = a .read ++ b .read; served = record { inside = b .served .inside; passed = rw both at passed; all = b .served .all } }
 
 -- an open desk has less than a frame in hand

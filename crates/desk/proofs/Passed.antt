@@ -112,15 +112,15 @@ more before after l room s links left new p u =
       tally = p .tally;
     }
 
--- where a frame is waited for, nothing that is left can be skipped
+-- where a frame is waited for, nothing that is left can be skipped: cut again, it is as it was
 pub unfinished : (s : List ℕ) (k : ℕ) → seekOf s ≡ Seen.Waiting k → Unfinished (drop k s)
 unfinished s k e =
     let c : cut s ≡ record { frames = []; kept = drop k s } = waiting s k e in
-    let d : cut s ≡ record { frames = cut s .frames ++ cut (cut s .kept ++ []) .frames; kept = cut (cut s .kept ++ []) .kept } = ap cut (sym (append-nil s)) ∙ in-pieces s [] in
-    let rest : cut s .kept ++ [] ≡ drop k s = append-nil (cut s .kept) ∙ ap (λ (z : Cut). z .kept) c in
-    let frames : cut (drop k s) .frames ≡ [] = sym (ap (λ (z : Cut). z .frames) d ∙ (λ i. c i .frames ++ cut (rest i) .frames)) ∙ ap (λ (z : Cut). z .frames) c in
-    let kept : cut (drop k s) .kept ≡ drop k s = sym (ap (λ (z : Cut). z .kept) d ∙ ap (λ (z : List ℕ). cut z .kept) rest) ∙ ap (λ (z : Cut). z .kept) c in
-    λ i. record { frames = frames i; kept = kept i }
+    let again = ap cut (sym (append-nil s)) ∙ in-pieces s [] in
+    let left : cut s .kept ++ [] ≡ drop k s = append-nil (cut s .kept) ∙ ap (λ (z : Cut). z .kept) c in
+    let frames : cut s .frames ≡ cut (drop k s) .frames = ap (λ (z : Cut). z .frames) again ∙ (λ i. c i .frames ++ cut (left i) .frames) in
+    let kept : cut s .kept ≡ cut (drop k s) .kept = ap (λ (z : Cut). z .kept) again ∙ ap (λ (z : List ℕ). cut z .kept) left in
+    (λ i. record { frames = sym frames i; kept = sym kept i }) ∙ c
 
 -- what is skipped before a wait leaves no trace
 skip : (before after : Desk) (l room s links left : List ℕ) → Passed before l room s after links left → (k : ℕ) → seekOf left ≡ Seen.Waiting k

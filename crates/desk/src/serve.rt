@@ -138,8 +138,9 @@ fn serve_arrived(
                 };
             }
             Seen::Whole(k, n) => {
-                used = k + n;
-                desk = answer(show, desk, links, &arrived[k..used], room, out);
+                let end = k + n;
+                desk = answer(show, desk, links, &arrived[k..end], room, out);
+                used = end;
             }
         }
     }

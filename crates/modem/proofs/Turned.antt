@@ -107,12 +107,13 @@ module _ (m : Module) (l frame room out : List ℕ) (r : Served) (links room' ou
           let o : out' ≡ laid (framed (t .reply)) out = rw q at (p .out-after) in
           let after : room' ≡ t .room = rw q at (p .room-after) in
           let long : a .length ≡ length (t .reply) = ap (λ (z : Answer). z .length) (e .0) in
-          let k : length (t .reply) ≤ length (t .room) = omega (arith, ap length (replied m l (drop 2 frame) room .start), length-take (length (t .reply)) (t .room)) in
+          let start = replied m l (drop 2 frame) room .start in
+          let k : length (t .reply) ≤ length (t .room) = omega (arith, ap length start, length-take (length (t .reply)) (t .room)) in
           record {
             enough = ltb-true (2 * length room) (length out) q;
             answer = e .0;
             memory = rw q at (p .links-after);
-            reply = (λ i. take (long i) (after i)) ∙ replied m l (drop 2 frame) room .start;
+            reply = (λ i. take (long i) (after i)) ∙ start;
             frames = (λ i. take (e .1 i) (o i)) ∙ take-append-seam (framed (t .reply)) _;
             stands = rw (long, after) k;
             lies = rw o (simp length-append (omega (arith, e .1)));

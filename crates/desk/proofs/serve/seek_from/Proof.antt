@@ -15,7 +15,10 @@ abbrev start : tie.After-seek → tie.Start
 start sought = sought .before .before .before
 
 -- whichever it is
-found : (sought : tie.After-seek) (v : Seen) → sought .seek .result ≡ v → further (start sought .args .used) v ≡ seekBehind (start sought .args .used) (start sought .args .arrived .now)
+abbrev SeenOf : tie.After-seek → Seen → Type 0
+SeenOf sought v = let g = start sought .args in further (g .used) v ≡ seekBehind (g .used) (g .arrived .now)
+
+found : (sought : tie.After-seek) (v : Seen) → sought .seek .result ≡ v → SeenOf sought v
 found sought v told =
     let g = start sought .args in
     ap (further (g .used)) (sym told ∙ sought .seek .ensures ∙ ap seekOf (rest (g .used) (g .arrived .now)))

@@ -52,8 +52,8 @@ lies found =
     let g = turn .before .before .before .before .before .args in
     next (turn .loop .used) (g .arrived .now) (turn .loop .inv .0) _ _ (sym (found .k2 .given .1) ∙ sought .seek-from .ensures)
 
-add-used : tie.Need-add-used Inv-loop μ-loop
-add-used c = omega (arith, lies (c .before))
+add-end : tie.Need-add-end Inv-loop μ-loop
+add-end c = omega (arith, lies (c .before))
 
 part-answer-end : tie.Need-part-answer-end Inv-loop μ-loop
 part-answer-end c = omega (arith, lies (c .before .before))
@@ -106,7 +106,7 @@ serve-arrived-spec =
     (λ c. omega arith)
     returns
     (λ c. search needs)
-    add-used
+    add-end
     (λ c. omega arith)
     (λ c. omega arith)
     part-answer-end

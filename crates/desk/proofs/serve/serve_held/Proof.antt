@@ -10,7 +10,8 @@ returns c =
     let arrived = c .before .before .before .before .before .before .before .before .before .before .before in
     let g = arrived .before .before .before .before .before .before .before .before .before .args in
     let served = arrived .serve-arrived in
-    moved (g .desk) (g .links .now) (g .room .now) (g .held .now) (served .last .1 .1 .0) (keep .last .0) (served .result) (served .ensures) (keep .ensures) (keep .kept .0)
+    moved (g .desk) (g .links .now) (g .room .now) (g .held .now) (served .last .1 .1 .0) (keep .last .0)
+    (served .result) (served .ensures) (keep .ensures) (keep .kept .0)
 
 pub serve-held-spec : {M : Type 1} → statement M
 serve-held-spec =

@@ -54,13 +54,15 @@ returns-2 : tie.Need-returns-2
 returns-2 c =
     let read = c .before .before .before .before .before .before .before .before .before in
     let g = start read .args in
-    no-read (g .before) (g .links .now) (g .room .now) (g .held .now) (c .stopped .result) (held read) (c .stopped .ensures) (there read) (read .read-behind .ensures .1)
+    no-read (g .before) (g .links .now) (g .room .now) (g .held .now) (c .stopped .result) (held read)
+    (c .stopped .ensures) (there read) (read .read-behind .ensures .1)
 
 returns-3 : tie.Need-returns-3
 returns-3 c =
     let read = c .before .before .before .before .before .before .before in
     let g = start read .args in
-    no-read (g .before) (g .links .now) (g .room .now) (g .held .now) (c .stopped2 .result) (held read) (c .stopped2 .ensures) (there read) (read .read-behind .ensures .1)
+    no-read (g .before) (g .links .now) (g .room .now) (g .held .now) (c .stopped2 .result) (held read)
+    (c .stopped2 .ensures) (there read) (read .read-behind .ensures .1)
 
 pub serve-one-read-spec : {M : Type 1} → statement M
 serve-one-read-spec =

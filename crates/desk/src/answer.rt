@@ -102,7 +102,7 @@ fn tell(show: Show, frame: &[u8], a: Answer, room: &[u8], out: &mut [u8], sent: 
     }
 }
 
-// The frames of a reply, and nothing else.
+// The frames of a reply, and nothing else. The reply stands beside them so that it can be said which.
 fn send(frames: &[u8], reply: &[u8]) -> bool
     requires { ⌜ now frames ≡ framed (now reply) ⌝ }
 {

@@ -1,2 +1,4 @@
--- Laws of what is held.
+-- Laws of what a desk comes to.
 pub mod Ahead
+pub mod Passed
+pub mod Held

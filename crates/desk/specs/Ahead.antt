@@ -1,7 +1,15 @@
-use Prim.Native.Nat.{ℕ, _+_, _≤_, _<_}
+-- The next frame behind bytes that are done with.
+use Prim.Native.Nat.{ℕ, _+_}
+use mathlib.Core.List.{List}
+use lib.ListN.{drop}
 use Rattle.modem.specs.declared.arrived.Seen.{Seen}
+use Rattle.modem.specs.Arrived.{seekOf}
 
--- behind the first n of `most` bytes, and among them
-abbrev pub Ahead : ℕ → ℕ → Seen → Type 0
-Ahead n most (Seen.Whole k size) = (n ≤ k) × (0 < size) × (k + size ≤ most)
-Ahead n most (Seen.Waiting k) = (n ≤ k) × (k ≤ most)
+-- n places further on
+abbrev pub further : ℕ → Seen → Seen
+further n (Seen.Whole k size) = Seen.Whole (n + k) size
+further n (Seen.Waiting k) = Seen.Waiting (n + k)
+
+-- behind the first n bytes, with its place counted from the start of all
+abbrev pub seekBehind : ℕ → List ℕ → Seen
+seekBehind n s = further n (seekOf (drop n s))

@@ -1,3 +1,6 @@
--- What the programs rely on from read to read, and from frame to frame.
+-- What the programs keep from frame to frame, and from read to read.
+pub mod Tally
+pub mod Desk
 pub mod Ahead
+pub mod Passed
 pub mod Input

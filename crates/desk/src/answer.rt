@@ -1,14 +1,20 @@
 // One frame: answered, told, and counted.
 use crate::Show;
-use crate::line::put_line;
-use crate::line::put_tally;
 use device::step::Answer;
 use libc::STDOUT_FILENO;
 use modem::serve::Served;
 use modem::serve::serve;
 use module::state::Module;
 use results::number;
+use text::line::Shown;
+use text::line::put_line;
+use text::line::put_tally;
+ghost use mathlib.Core.Path.{_≡_};
 ghost use Rattle.io.specs.Counts.{Counts};
+ghost use Rattle.results.specs.Number.{numberOf};
+ghost use Rattle.modem.specs.Frames.{framed};
+ghost use Rattle.desk.specs.Tally.{countedAt};
+ghost use Rattle.desk.specs.Desk.{closedOf, AnswerPromise, Handed};
 
 // The module, how many frames had each result, and whether more frames are served.
 pub(crate) struct Desk {
@@ -17,7 +23,9 @@ pub(crate) struct Desk {
     pub is_open: bool,
 }
 
-pub(crate) fn closed(desk: Desk) -> Desk {
+pub(crate) fn closed(desk: Desk) -> Desk
+    ensures { λ r. ⌜ r ≡ closedOf desk ⌝ }
+{
     Desk {
         is_open: false,
         ..desk
@@ -32,7 +40,12 @@ pub(crate) fn answer(
     frame: &[u8],
     room: &mut [u8],
     out: &mut [u8],
-) -> Desk {
+) -> Desk
+    ensures { λ r. ⌜
+        AnswerPromise desk (now (links .entry)) (now (frame .entry)) (now (room .entry)) (now (out .entry))
+        r (now (links .exit))
+        ⌝ }
+{
     let m = desk.module;
     match serve(m, links, frame, room, out) {
         Served::Cramped => closed(desk),
@@ -43,7 +56,15 @@ pub(crate) fn answer(
     }
 }
 
-fn answered(desk: Desk, a: Answer, is_told: bool) -> Desk {
+fn answered(desk: Desk, a: Answer, is_told: bool) -> Desk
+    ensures { λ r. ⌜
+        r ≡ record {
+          «module» = a .next;
+          tally = countedAt (desk .tally) (numberOf (a .outcome));
+          «is_open» = «is_told»;
+        }
+        ⌝ }
+{
     let next = a.next;
     let outcome = a.outcome;
     let before = desk.tally;
@@ -55,7 +76,9 @@ fn answered(desk: Desk, a: Answer, is_told: bool) -> Desk {
     }
 }
 
-fn counted(tally: [u64; 9], result: u8) -> [u64; 9] {
+fn counted(tally: [u64; 9], result: u8) -> [u64; 9]
+    ensures { λ r. ⌜ r ≡ countedAt tally result ⌝ }
+{
     let mut counted = tally;
     let i = result as usize;
     if i < 9 {
@@ -67,14 +90,37 @@ fn counted(tally: [u64; 9], result: u8) -> [u64; 9] {
 fn tell(show: Show, frame: &[u8], a: Answer, room: &[u8], out: &mut [u8], sent: usize) -> bool
     requires { ⌜ Counts sent (now out) ⌝ }
     requires { ⌜ Counts (a .length) (now room) ⌝ }
+    requires { ⌜ Handed (now frame) a sent (now room) (now out) ⌝ }
 {
+    let n = a.length;
     match show {
-        Show::Frames => write_out(&out[..sent]),
+        Show::Frames => send(&out[..sent], &room[..n]),
         Show::Lines => {
-            let n = a.length;
-            let end = put_line(out, frame, a, &room[..n]);
+            let end = put_line(out, frame, shown(a), &room[..n]);
             write_out(&out[..end])
         }
+    }
+}
+
+// The frames of a reply, and nothing else. The reply stands beside them so that it can be said which.
+fn send(frames: &[u8], reply: &[u8]) -> bool
+    requires { ⌜ now frames ≡ framed (now reply) ⌝ }
+{
+    write_out(frames)
+}
+
+fn shown(a: Answer) -> Shown
+    ensures { λ r. ⌜
+        r ≡ record { result = numberOf (a .outcome); read = a .read; level = a .next .load .level }
+        ⌝ }
+{
+    let outcome = a.outcome;
+    let after = a.next;
+    let lamp = after.load;
+    Shown {
+        result: number(outcome),
+        read: a.read as u64,
+        level: lamp.level,
     }
 }
 

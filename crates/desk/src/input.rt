@@ -1,6 +1,7 @@
 // Bytes from files, each read behind those that are there.
-ghost use Prim.Native.Nat.{_≤_};
-ghost use lib.ListN.{length};
+ghost use mathlib.Core.Path.{_≡_};
+ghost use Prim.Native.Nat.{_<_};
+ghost use lib.ListN.{length, take};
 ghost use Rattle.io.specs.Counts.{Counts};
 ghost use Rattle.desk.specs.Input.{Grown};
 
@@ -12,8 +13,9 @@ pub(crate) enum Got {
 }
 
 pub(crate) fn read_behind(fd: i32, bytes: &mut [u8], n: usize) -> Got
-    requires { ⌜ n ≤ length (now bytes) ⌝ }
+    requires { ⌜ n < length (now bytes) ⌝ }
     ensures { λ r. ⌜ Grown n (length (now (bytes .entry))) r ⌝ }
+    ensures { λ _. ⌜ take n (now (bytes .exit)) ≡ take n (now (bytes .entry)) ⌝ }
 {
     let free = &mut bytes[n..];
     let got = libc::read(fd, free);
@@ -59,23 +61,27 @@ fn fill(fd: i32, memory: &mut [u8]) -> Loaded
     ensures { λ r. ⌜ Counts (r .size) (now (memory .exit)) ⌝ }
 {
     let mut n: usize = 0;
-    loop {
+    while n < memory.len() {
         match read_behind(fd, memory, n) {
             Got::More(k) => {
                 n = k;
             }
             Got::End => {
-                break Loaded {
+                return Loaded {
                     size: n,
                     is_fine: true,
                 };
             }
             Got::Failed => {
-                break Loaded {
+                return Loaded {
                     size: n,
                     is_fine: false,
                 };
             }
         }
+    }
+    Loaded {
+        size: n,
+        is_fine: true,
     }
 }

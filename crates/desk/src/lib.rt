@@ -1,9 +1,6 @@
 // What `bench` and `screen` share: link memory from links.bin, frames from standard input, one module ("The program").
 mod answer;
 mod input;
-mod line;
-mod name;
-mod put;
 mod serve;
 
 use answer::Desk;
@@ -12,6 +9,8 @@ use module::state::Identity;
 use module::state::Module;
 use serve::serve_until_end;
 use wire::address::Address;
+ghost use mathlib.Core.Path.{_≡_};
+ghost use Rattle.desk.specs.Desk.{freshDesk};
 
 // What is written for each frame.
 pub enum Show {
@@ -45,7 +44,9 @@ pub fn sit(show: Show) {
     );
 }
 
-fn fresh() -> Desk {
+fn fresh() -> Desk
+    ensures { λ r. ⌜ r ≡ freshDesk ⌝ }
+{
     let identity = Identity {
         address: Address {
             high: 0x00,

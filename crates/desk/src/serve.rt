@@ -11,9 +11,11 @@ use modem::arrived::Seen;
 use modem::arrived::keep;
 use modem::arrived::seek;
 ghost use mathlib.Core.Path.{_≡_};
-ghost use Prim.Native.Nat.{_≤_};
+ghost use Prim.Native.Nat.{_*_, _≤_, _<_};
 ghost use lib.ListN.{length};
-ghost use Rattle.desk.specs.Ahead.{Ahead};
+ghost use Rattle.desk.specs.Desk.{closedOf};
+ghost use Rattle.desk.specs.Ahead.{seekBehind};
+ghost use Rattle.desk.specs.Passed.{ArrivedPromise, HeldPromise, ReadPromise, EndPromise};
 
 // How far a desk has come, in bytes.
 struct Progress {
@@ -28,7 +30,11 @@ pub(crate) fn serve_until_end(
     held: &mut [u8],
     room: &mut [u8],
     out: &mut [u8],
-) {
+)
+    requires { ⌜ 25 ≤ length (now held) ⌝ }
+    requires { ⌜ 2 * length (now room) < length (now out) ⌝ }
+    ensures { λ _. ⌜ EndPromise desk (now (links .entry)) (now (room .entry)) (now (links .exit)) ⌝ }
+{
     let mut p = Progress {
         desk: desk,
         count: 0,
@@ -41,7 +47,7 @@ pub(crate) fn serve_until_end(
     }
 }
 
-// One read, and all that follows from it; how many bytes are held then.
+// One read, and all that follows from it; how many bytes are held then. At the end they are dropped: nobody serves them.
 fn serve_one_read(
     show: Show,
     before: Progress,
@@ -50,30 +56,35 @@ fn serve_one_read(
     room: &mut [u8],
     out: &mut [u8],
 ) -> Progress
-    requires { ⌜ before .count ≤ length (now held) ⌝ }
-    ensures { λ r. ⌜ r .count ≤ length (now (held .exit)) ⌝ }
+    requires { ⌜ before .count < length (now held) ⌝ }
+    requires { ⌜ 2 * length (now room) < length (now out) ⌝ }
+    ensures { λ r. ⌜
+        ReadPromise before (now (links .entry)) (now (room .entry)) (now (held .entry))
+        r (now (links .exit)) (now (held .exit))
+        ⌝ }
 {
     let desk = before.desk;
     match read_behind(STDIN_FILENO, held, before.count) {
         Got::More(k) => serve_held(show, desk, links, &mut held[..k], room, out),
         Got::End => {
             finish(show, desk, out);
-            stopped(desk)
+            stopped(before)
         }
         Got::Failed => {
             os::fail(b"standard input");
-            stopped(desk)
+            stopped(before)
         }
     }
 }
 
-// Nothing is held, and no more is read.
-fn stopped(desk: Desk) -> Progress
-    ensures { λ r. ⌜ r .count ≡ 0 ⌝ }
+// No more is read.
+fn stopped(before: Progress) -> Progress
+    ensures { λ r. ⌜ r ≡ record { desk = closedOf (before .desk); count = before .count } ⌝ }
 {
+    let desk = before.desk;
     Progress {
         desk: closed(desk),
-        count: 0,
+        count: before.count,
     }
 }
 
@@ -86,7 +97,11 @@ fn serve_held(
     room: &mut [u8],
     out: &mut [u8],
 ) -> Progress
-    ensures { λ r. ⌜ r .count ≤ length (now (held .exit)) ⌝ }
+    requires { ⌜ 2 * length (now room) < length (now out) ⌝ }
+    ensures { λ r. ⌜
+        HeldPromise desk (now (links .entry)) (now (room .entry)) (now (held .entry))
+        r (now (links .exit)) (now (held .exit))
+        ⌝ }
 {
     let p = serve_arrived(show, desk, links, held, room, out);
     let used = p.count;
@@ -107,7 +122,10 @@ fn serve_arrived(
     room: &mut [u8],
     out: &mut [u8],
 ) -> Progress
-    ensures { λ r. ⌜ r .count ≤ length (now (arrived .entry)) ⌝ }
+    requires { ⌜ 2 * length (now room) < length (now out) ⌝ }
+    ensures { λ r. ⌜
+        ArrivedPromise desk (now (links .entry)) (now (room .entry)) (now (arrived .entry)) r (now (links .exit))
+        ⌝ }
 {
     let mut desk = desk;
     let mut used: usize = 0;
@@ -120,8 +138,9 @@ fn serve_arrived(
                 };
             }
             Seen::Whole(k, n) => {
-                used = k + n;
-                desk = answer(show, desk, links, &arrived[k..used], room, out);
+                let end = k + n;
+                desk = answer(show, desk, links, &arrived[k..end], room, out);
+                used = end;
             }
         }
     }
@@ -134,7 +153,7 @@ fn serve_arrived(
 // The next frame behind the first `used` bytes; its place is counted from the start of all.
 fn seek_from(arrived: &[u8], used: usize) -> Seen
     requires { ⌜ used ≤ length (now arrived) ⌝ }
-    ensures { λ r. ⌜ Ahead used (length (now (arrived .entry))) r ⌝ }
+    ensures { λ r. ⌜ r ≡ seekBehind used (now (arrived .entry)) ⌝ }
 {
     match seek(&arrived[used..]) {
         Seen::Whole(k, n) => {

@@ -5,7 +5,8 @@ use mathlib.Core.Bool.{Bool, true, false}
 use mathlib.Core.List.{List, [], _∷_}
 use native.Mathlib.Omega.{arith}
 use lib.ListN.{length, take, drop, length-append, length-take}
-use borrow.Author.Tests.{lt-ltb, le-ltb}
+use lib.Seq.{take-append-seam}
+use borrow.Author.Tests.{lt-ltb, le-ltb, ltb-true, ltb-false}
 use borrow.Rule.Slice.PartMut.{midOf}
 use Rattle.basis.specs.Choice.{choose}
 use Rattle.basis.specs.Laid.{laid}
@@ -75,7 +76,7 @@ module _ (m : Module) (l frame room out : List ℕ) where
       let k : n ≡ length (framed (t .reply)) = q ∙ ap (λ (z : List ℕ). length (framed z)) e in
       kept (doneOf out t) (rw (lt-ltb (2 * length room) (length out) h)) (λ i. Served.Done (a i) (k i)) (p .memory) (p .room-after) (o ∙ ap (λ (z : List ℕ). laid (framed z) out) e)
 
--- a frame that was served
+-- what was answered is told from what was refused
 module _ (a : Answer) (n : ℕ) where
   apart : {A : Type 0} → Served.Done a n ≡ Served.Cramped → A
   apart p = absurd (let z : _≡_ {A = ℕ} 0 1 = cc in omega arith)
@@ -83,21 +84,48 @@ module _ (a : Answer) (n : ℕ) where
   same : (b : Answer) (k : ℕ) → Served.Done a n ≡ Served.Done b k → (a ≡ b) × (n ≡ k)
   same b k p = (cc, cc)
 
--- its frames stand in `out`, and its reply in the room
-pub lies : (m : Module) (l frame room out : List ℕ) (a : Answer) (n : ℕ) (links room' out' : List ℕ)
-    → ServePromise m l frame room out (Served.Done a n) links room' out'
-    → (n ≤ length out') × (a .length ≤ length room')
-unfolding turnOf choose
-lies m l frame room out a n links room' out' p = go (ample room out) refl
-  where
-    t : Step
-    t = stepOf m l (drop 2 frame) room
+-- a frame that was served: what its step leaves, with the reply in the room and its frames in `out`
+pub record Shows (m : Module) (l frame room out : List ℕ) (a : Answer) (n : ℕ) (links room' out' : List ℕ) : Type 0 where
+  pub enough : 2 * length room < length out
+  pub answer : a ≡ answerOf (stepOf m l (drop 2 frame) room)
+  pub memory : links ≡ stepOf m l (drop 2 frame) room .links
+  pub reply : take (a .length) room' ≡ stepOf m l (drop 2 frame) room .reply
+  pub frames : take n out' ≡ framed (stepOf m l (drop 2 frame) room .reply)
+  pub stands : a .length ≤ length room'
+  pub lies : n ≤ length out'
 
-    go : (b : Bool) → ample room out ≡ b → (n ≤ length out') × (a .length ≤ length room')
-    go true q =
-        let e = same a n (answerOf t) (length (framed (t .reply))) (rw q at (p .served)) in
-        let o : out' ≡ laid (framed (t .reply)) out = rw q at (p .out-after) in
-        let r : room' ≡ t .room = rw q at (p .room-after) in
-        let k : length (t .reply) ≤ length (t .room) = omega (arith, ap length (replied m l (drop 2 frame) room .start), length-take (length (t .reply)) (t .room)) in
-        (rw o (simp length-append (omega (arith, e .1))), rw (e .0, r) k)
-    go false q = apart a n (rw q at (p .served))
+module _ (m : Module) (l frame room out : List ℕ) (r : Served) (links room' out' : List ℕ) (p : ServePromise m l frame room out r links room' out') where
+  pub shows : (a : Answer) (n : ℕ) → r ≡ Served.Done a n → Shows m l frame room out a n links room' out'
+  unfolding turnOf choose
+  shows a n is = go (ample room out) refl
+    where
+      t : Step
+      t = stepOf m l (drop 2 frame) room
+
+      go : (b : Bool) → ample room out ≡ b → Shows m l frame room out a n links room' out'
+      go true q =
+          let e = same a n (answerOf t) (length (framed (t .reply))) (sym is ∙ rw q at (p .served)) in
+          let o : out' ≡ laid (framed (t .reply)) out = rw q at (p .out-after) in
+          let after : room' ≡ t .room = rw q at (p .room-after) in
+          let long : a .length ≡ length (t .reply) = ap (λ (z : Answer). z .length) (e .0) in
+          let start = replied m l (drop 2 frame) room .start in
+          let k : length (t .reply) ≤ length (t .room) = omega (arith, ap length start, length-take (length (t .reply)) (t .room)) in
+          record {
+            enough = ltb-true (2 * length room) (length out) q;
+            answer = e .0;
+            memory = rw q at (p .links-after);
+            reply = (λ i. take (long i) (after i)) ∙ start;
+            frames = (λ i. take (e .1 i) (o i)) ∙ take-append-seam (framed (t .reply)) _;
+            stands = rw (long, after) k;
+            lies = rw o (simp length-append (omega (arith, e .1)));
+          }
+      go false q = apart a n (sym is ∙ rw q at (p .served))
+
+  -- one that was not: `out` is too short, and nothing is altered
+  pub refused : r ≡ Served.Cramped → (length out ≤ 2 * length room) × (links ≡ l)
+  unfolding turnOf choose
+  refused is = go (ample room out) refl
+    where
+      go : (b : Bool) → ample room out ≡ b → (length out ≤ 2 * length room) × (links ≡ l)
+      go true q = apart _ _ (sym (sym is ∙ rw q at (p .served)))
+      go false q = (ltb-false (2 * length room) (length out) q, rw q at (p .links-after))

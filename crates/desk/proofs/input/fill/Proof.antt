@@ -1,4 +1,4 @@
--- Each read stands behind those before it; the last adds nothing.
+-- Each read stands behind those before it.
 use Prim.Native.Nat.{_≤_, _-_}
 use mathlib.Core.Path.{_≡_, refl}
 use native.Mathlib.Omega.{arith}
@@ -19,23 +19,26 @@ loop-less : tie.Need-loop-less Inv-loop μ-loop
 loop-less c =
     let more = c .before in
     let read = more .before .before .before .before in
-    omega (arith, rw (more .k .given .1) at (read .read-behind .ensures))
+    omega (arith, rw (more .k .given .1) at (read .read-behind .ensures .0))
 
 loop-again : tie.Need-loop-again Inv-loop μ-loop
 loop-again c =
     let more = c .before in
     let read = more .before .before .before .before in
-    omega (arith, rw (more .k .given .1) at (read .read-behind .ensures))
+    omega (arith, rw (more .k .given .1) at (read .read-behind .ensures .0))
 
 -- what was there before the last read is there after it
-stays : (c : tie.After-read-behind Inv-loop μ-loop) → Counts (c .before .before .loop .n) (c .read-behind .last .1 .0)
-stays c = counts (c .before .before .loop .n) (c .read-behind .last .1 .0) (omega arith)
+stays : (c : tie.After-read-behind Inv-loop μ-loop) → Counts (c .before .before .before .loop .n) (c .read-behind .last .1 .0)
+stays c = counts (c .before .before .before .loop .n) (c .read-behind .last .1 .0) (omega arith)
 
 returns : tie.Need-returns Inv-loop μ-loop
 returns c = stays (c .before .before .before .before)
 
 returns-2 : tie.Need-returns-2 Inv-loop μ-loop
 returns-2 c = stays (c .before .before .before .before)
+
+returns-3 : tie.Need-returns-3 Inv-loop μ-loop
+returns-3 c = counts (c .before .loop .n) (c .before .loop .memory) (omega arith)
 
 pub fill-spec : {M : Type 1} → statement M
 fill-spec =
@@ -50,7 +53,9 @@ fill-spec =
     loop-again
     (λ c. search needs)
     (λ c. search needs)
-    (λ c. omega arith)
     returns
-    (λ c. omega arith)
-    returns-2)
+    (λ c. search needs)
+    (λ c. search needs)
+    returns-2
+    (λ c. search needs)
+    returns-3)

@@ -1,40 +1,49 @@
--- What `seek` finds behind the first `used` bytes lies there.
-use Prim.Native.Nat.{ℕ, _+_}
-use mathlib.Core.Path.{sym, _∙_}
+-- What `seek` finds behind the first `used` bytes, as many places further on.
+use Prim.Native.Nat.{_+_}
+use mathlib.Core.Path.{_≡_, sym, _∙_, ap}
 use native.Mathlib.Omega.{arith}
-use lib.ListN.{length}
 use borrow.Author.Needs.{needs}
+use Rattle.basis.proofs.Laid.{rest}
 use Rattle.modem.specs.declared.arrived.Seen.{Seen}
-use Rattle.desk.specs.Ahead.{Ahead}
-use Rattle.desk.proofs.Ahead.{whole, waiting}
+use Rattle.modem.specs.Arrived.{seekOf}
+use Rattle.desk.specs.Ahead.{further, seekBehind}
+use Rattle.desk.proofs.Ahead.{next, none}
 use Rattle.desk.proofs.serve.seek_from.Statement.{statement}
 use Rattle.desk.proofs.serve.seek_from.Tie as tie
 
 abbrev start : tie.After-seek → tie.Start
 start sought = sought .before .before .before
 
-abbrev AheadOf : tie.After-seek → (ℕ → Seen) → Type 0
-AheadOf sought seen = let g = start sought .args in Ahead (g .used) (length (g .arrived .now)) (seen (g .used))
+-- whichever it is
+abbrev SeenOf : tie.After-seek → Seen → Type 0
+SeenOf sought v = let g = start sought .args in further (g .used) v ≡ seekBehind (g .used) (g .arrived .now)
 
-is-whole : (c : tie.After-k) → AheadOf (c .before .before) (λ used. Seen.Whole (used + c .k .given .0 .0) (c .k .given .0 .1 .0))
-is-whole c =
-    let sought = c .before .before in
+found : (sought : tie.After-seek) (v : Seen) → sought .seek .result ≡ v → SeenOf sought v
+found sought v told =
     let g = start sought .args in
-    let told = c .k .given in
-    whole (g .used) (g .arrived .now) (start sought .pre) (told .0 .0) (told .0 .1 .0) (sym (told .1) ∙ sought .seek .ensures)
+    ap (further (g .used)) (sym told ∙ sought .seek .ensures ∙ ap seekOf (rest (g .used) (g .arrived .now)))
 
-is-waiting : (c : tie.After-k2) → AheadOf (c .before .before) (λ used. Seen.Waiting (used + c .k2 .given .0 .0))
-is-waiting c =
-    let sought = c .before .before in
-    let g = start sought .args in
-    let told = c .k2 .given in
-    waiting (g .used) (g .arrived .now) (start sought .pre) (told .0 .0) (sym (told .1) ∙ sought .seek .ensures)
+returns : tie.Need-returns
+returns c =
+    let told = c .before .k .given in
+    found (c .before .before .before) (Seen.Whole (told .0 .0) (told .0 .1 .0)) (told .1)
+
+returns-2 : tie.Need-returns-2
+returns-2 c =
+    let told = c .before .k2 .given in
+    found (c .before .before .before) (Seen.Waiting (told .0 .0)) (told .1)
 
 add-at : tie.Need-add-at
-add-at c = omega (arith, is-whole (c .before))
+add-at c =
+    let g = start (c .before .before .before) in
+    let told = c .before .k .given in
+    omega (arith, next (g .args .used) (g .args .arrived .now) (g .pre) (g .args .used + told .0 .0) (told .0 .1 .0) (returns c) .lies)
 
 add-at-2 : tie.Need-add-at-2
-add-at-2 c = omega (arith, is-waiting (c .before))
+add-at-2 c =
+    let g = start (c .before .before .before) in
+    let told = c .before .k2 .given in
+    omega (arith, none (g .args .used) (g .args .arrived .now) (g .pre) (g .args .used + told .0 .0) (returns-2 c) .lies)
 
 pub seek-from-spec : {M : Type 1} → statement M
 seek-from-spec =
@@ -48,5 +57,5 @@ seek-from-spec =
     add-at
     (λ c. search needs)
     add-at-2
-    (λ c. is-whole (c .before))
-    (λ c. is-waiting (c .before)))
+    returns
+    returns-2)

@@ -5,24 +5,27 @@ use crate::put::put;
 use crate::put::put_byte;
 use crate::put::put_bytes;
 use crate::put::put_number;
-use device::step::Answer;
-use results::number;
 use wire::read::heard_as;
 ghost use Prim.Native.Nat.{_≤_};
 ghost use lib.ListN.{length};
 ghost use Rattle.io.specs.Counts.{Counts};
 
-pub(crate) fn put_line(line: &mut [u8], frame: &[u8], a: Answer, reply: &[u8]) -> usize
+// What came of a frame, as the line shows it beside the bytes.
+pub struct Shown {
+    pub result: u8,
+    pub read: u64,
+    pub level: u8,
+}
+
+// The frame's line, laid over the start of `line`; how many bytes it has there. What no longer fits is left out.
+pub fn put_line(line: &mut [u8], frame: &[u8], shown: Shown, reply: &[u8]) -> usize
     ensures { λ r. ⌜ Counts r (now (line .exit)) ⌝ }
 {
-    let outcome = a.outcome;
-    let next = a.next;
-    let lamp = next.load;
-    let mut at = put_result(line, 0, number(outcome));
+    let mut at = put_result(line, 0, shown.result);
     at = put_asked(line, at, frame);
     at = put(line, at, b" | reply");
     at = put_bytes(line, at, reply);
-    put_state(line, at, a.read as u64, lamp.level)
+    put_state(line, at, shown.read, shown.level)
 }
 
 fn put_state(line: &mut [u8], at: usize, read: u64, level: u8) -> usize
@@ -101,8 +104,8 @@ fn put_data(line: &mut [u8], at: usize, data: &[u8]) -> usize
     put_bytes(line, to, data)
 }
 
-// How many frames had each result.
-pub(crate) fn put_tally(line: &mut [u8], tally: [u64; 9]) -> usize
+// How many frames had each result, a line each.
+pub fn put_tally(line: &mut [u8], tally: [u64; 9]) -> usize
     ensures { λ r. ⌜ Counts r (now (line .exit)) ⌝ }
 {
     let mut at: usize = 0;

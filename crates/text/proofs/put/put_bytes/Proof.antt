@@ -4,8 +4,8 @@ use mathlib.Core.Path.{_≡_}
 use native.Mathlib.Omega.{arith}
 use lib.ListN.{length}
 use Rattle.basis.proofs.Counted.{counts}
-use Rattle.desk.proofs.put.put_bytes.Statement.{statement}
-use Rattle.desk.proofs.put.put_bytes.Tie as tie
+use Rattle.text.proofs.put.put_bytes.Statement.{statement}
+use Rattle.text.proofs.put.put_bytes.Tie as tie
 
 abbrev Inv-loop : tie.InvT-loop
 Inv-loop line₀ at bytes to₀ i₀ line to i = (length line ≡ length line₀) × (to ≤ length line) × (i ≤ length bytes)

@@ -4,8 +4,8 @@ use mathlib.Core.Path.{_≡_}
 use native.Mathlib.Omega.{arith}
 use lib.ListN.{length}
 use Rattle.basis.proofs.Counted.{counts}
-use Rattle.desk.proofs.line.put_tally.Statement.{statement}
-use Rattle.desk.proofs.line.put_tally.Tie as tie
+use Rattle.text.proofs.line.put_tally.Statement.{statement}
+use Rattle.text.proofs.line.put_tally.Tie as tie
 
 abbrev Inv-loop : tie.InvT-loop
 Inv-loop line₀ tally at₀ i₀ t6 t7 line at i = (length line ≡ length line₀) × (at ≤ length line) × (i ≤ 9)

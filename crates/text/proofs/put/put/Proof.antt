@@ -5,8 +5,8 @@ use lib.ListN.{length}
 use borrow.Rule.Slice.PartMut.{putMid}
 use Rattle.basis.proofs.Counted.{counts}
 use borrow.Author.Needs.{needs}
-use Rattle.desk.proofs.put.put.Statement.{statement}
-use Rattle.desk.proofs.put.put.Tie as tie
+use Rattle.text.proofs.put.put.Statement.{statement}
+use Rattle.text.proofs.put.put.Tie as tie
 
 returns : tie.Need-returns
 returns c =

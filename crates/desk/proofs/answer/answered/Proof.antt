@@ -1,0 +1,10 @@
+use mathlib.Core.Path.{refl}
+use borrow.Author.Needs.{needs}
+use Rattle.desk.proofs.answer.answered.Statement.{statement}
+use Rattle.desk.proofs.answer.answered.Tie as tie
+
+returns : tie.Need-returns
+returns c = rw (c .counted .ensures, c .before .number .ensures) refl
+
+pub answered-spec : {M : Type 1} → statement M
+answered-spec = tie.close (tie.spec (λ c κs. search needs) (λ c κs. search needs) returns)

@@ -7,9 +7,9 @@ use lib.ListN.{length, take, drop}
 use lib.Seq.{drop-drop}
 use Rattle.results.specs.Number.{numberOf}
 use Rattle.device.specs.Step.{Step}
-use Rattle.device.specs.Run.{State, callOf, leftBy, runOf, endOf}
+use Rattle.device.specs.Run.{State, Said, callOf, leftBy, saidOf, runOf, endOf}
 use Rattle.device.proofs.Parts.{run-parts, end-parts}
-use Rattle.device.proofs.RoomAlike.{Alike, room-alike}
+use Rattle.device.proofs.Lent.{room-alike}
 use Rattle.modem.specs.declared.arrived.Seen.{Seen}
 use Rattle.modem.specs.Arrived.{seekOf}
 use Rattle.modem.specs.Stream.{Cut, cut, callIn, callsIn}
@@ -28,11 +28,11 @@ count-parts tally (t ∷ first) second = count-parts (counted tally t) first sec
 
 -- one room or another of its length: the same state, and the same counts
 module _ (room room' : List ℕ) (e : length room ≡ length room') where
-  alike : (st : State) (frame : List ℕ) → Alike (callOf st (callIn room frame)) (callOf st (callIn room' frame))
-  alike st frame = room-alike (st .device) (st .links) (drop 2 frame) room room' e
+  alike : (st : State) (frame : List ℕ) → saidOf (callOf st (callIn room frame)) ≡ saidOf (callOf st (callIn room' frame))
+  alike st frame = room-alike st (drop 2 frame) room room' e
 
   left-alike : (st : State) (frame : List ℕ) → leftBy (callOf st (callIn room frame)) ≡ leftBy (callOf st (callIn room' frame))
-  left-alike st frame i = record { device = alike st frame .next i; links = alike st frame .links i }
+  left-alike st frame = ap (λ (x : Said). x .left) (alike st frame)
 
   end-alike : (st : State) (frames : List (List ℕ)) → endOf st (callsIn room frames) ≡ endOf st (callsIn room' frames)
   unfolding endOf
@@ -47,7 +47,7 @@ module _ (room room' : List ℕ) (e : length room ≡ length room') where
   count-alike st tally [] = refl
   count-alike st tally (f ∷ frames) =
       count-alike (leftBy (callOf st (callIn room f))) (counted tally (callOf st (callIn room f))) frames
-      ∙ (λ i. countedAll (countedAt tally (numberOf (alike st f .outcome i))) (runOf (left-alike st f i) (callsIn room' frames)))
+      ∙ (λ i. countedAll (countedAt tally (numberOf (alike st f i .outcome))) (runOf (left-alike st f i) (callsIn room' frames)))
 
 -- nothing is done yet, with the desk open or closed
 pub still : (desk after : Desk) (l room s : List ℕ) → stateOf after l ≡ stateOf desk l → after .tally ≡ desk .tally → Passed desk l room s after l s

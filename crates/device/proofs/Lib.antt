@@ -4,4 +4,3 @@ pub mod Replied
 pub mod Lasting
 pub mod Lent
 pub mod Parts
-pub mod RoomAlike

@@ -8,6 +8,7 @@ pub mod Legal
 pub mod Demand1
 pub mod Demand2
 pub mod Stranger
+pub mod Anybody
 pub mod Room
 pub mod Demand3
 pub mod OneAnswer

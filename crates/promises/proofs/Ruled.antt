@@ -1,14 +1,16 @@
--- What a well-formed direct message comes to, before the sender's link is known.
+-- What a well-formed message comes to, before the sender's link is known.
 use Prim.Native.Nat.{ℕ}
-use mathlib.Core.Path.{_≡_, _∙_}
+use mathlib.Core.Path.{_≡_, refl, _∙_}
 use mathlib.Core.Bool.{true}
 use mathlib.Core.List.{List}
 use Rattle.basis.specs.Choice.{choose}
+use Rattle.basis.proofs.Choice.{either}
 use Rattle.wire.specs.declared.command.Command.{Command}
 use Rattle.wire.specs.Bytes.{fromOf, command1Of, requestOf, dataOf, isExtended}
-use Rattle.wire.specs.Kinds.{isDirect, commandOf}
-use Rattle.wire.specs.Reading.{wellFormed}
-use Rattle.wire.proofs.Heard.{heard}
+use Rattle.wire.specs.declared.kind.Reading.{Reading}
+use Rattle.wire.specs.Kinds.{isDirect, commandOf, kindOf}
+use Rattle.wire.specs.Reading.{wellFormed, readOf}
+use Rattle.wire.proofs.Heard.{parts}
 use Rattle.links.specs.Record.{isFit, records}
 use Rattle.links.specs.Live.{Linked}
 use Rattle.links.specs.Search.{searchOf}
@@ -16,9 +18,10 @@ use Rattle.module.specs.declared.state.Module.{Module}
 use Rattle.module.specs.declared.deed.Deed.{Deed}
 use Rattle.module.specs.Plan.{deedPlan}
 use Rattle.decide.specs.Dispatch.{deedOf}
-use Rattle.decide.specs.Decide.{directWanted, directPlan}
-use Rattle.decide.specs.Ruling.{rulingBy, rulingOf}
+use Rattle.decide.specs.Decide.{needsNoLink, directWanted, directPlan}
+use Rattle.decide.specs.Ruling.{heardBy, kindRuling, rulingBy, rulingOf}
 use Rattle.decide.proofs.Sender.{linked-plan}
+use Rattle.device.specs.Step.{Step, stepOf}
 
 -- the command that the bytes name
 abbrev pub commandIn : List ℕ → Command
@@ -28,10 +31,28 @@ commandIn s = commandOf (isExtended s) (command1Of s)
 abbrev pub deedIn : Module → List ℕ → List ℕ → Deed
 deedIn m l s = deedOf m (requestOf s) (dataOf s) (records l) (commandIn s)
 
+-- it is read into its kind, its data bytes beside it
+pub read-as : (m : Module) (s : List ℕ) → wellFormed s (m .identity .address) ≡ true → heardBy m s ≡ record { reading = Reading.Heard (kindOf s); «data» = dataOf s }
+unfolding readOf choose
+read-as m s w = let p = parts s (m .identity .address) w in rw (p .0, p .1, p .2)
+
+pub by-kind : (m : Module) (l s : List ℕ) → isFit l ≡ true → wellFormed s (m .identity .address) ≡ true → rulingOf m l s ≡ kindRuling m l (dataOf s) (kindOf s)
+unfolding rulingBy choose
+by-kind m l s f w = rw (f, read-as m s w)
+
+-- the room has no say in the number of records read
+pub read-by : (m : Module) (l s room : List ℕ) → stepOf m l s room .read ≡ rulingOf m l s .read
+read-by m l s room = either (λ (t : Step). t .read ≡ rulingOf m l s .read) _ refl refl
+
 module _ (m : Module) (l s : List ℕ) (f : isFit l ≡ true) (w : wellFormed s (m .identity .address) ≡ true) (d : isDirect s ≡ true) where
   pub ruled : rulingOf m l s .plan ≡ directPlan m (requestOf s) (dataOf s) (records l) (commandIn s) (searchOf l (directWanted (requestOf s) (commandIn s)) .found)
-  unfolding rulingBy choose
-  ruled = rw (f, heard s (m .identity .address) w d)
+  unfolding kindOf choose
+  ruled = rw (by-kind m l s f w, d)
+
+  -- what needs no link makes no search
+  pub unread : needsNoLink (commandIn s) ≡ true → rulingOf m l s .read ≡ 0
+  unfolding kindOf choose
+  unread e = rw (by-kind m l s f w, d, e)
 
   pub ruled-linked : Linked l (fromOf s) → rulingOf m l s .plan ≡ deedPlan m (requestOf s) (deedIn m l s)
   ruled-linked h = ruled ∙ linked-plan m l (requestOf s) (dataOf s) (records l) (commandIn s) h

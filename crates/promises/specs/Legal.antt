@@ -53,7 +53,7 @@ module _ (m : Module) (s : List ℕ) where
   repeated = ack (command1Of s) (command2Of s)
 
   -- category, subcategory and firmware stand in the place of an address
-  abbrev idBroadcast : List ℕ
+  abbrev pub idBroadcast : List ℕ
   idBroadcast =
       standard (m .identity .address) (record { high = m .identity .category; middle = m .identity .subcategory; low = m .identity .firmware })
       ReplyType.IdBroadcast 0x01 (m .identity .revision)

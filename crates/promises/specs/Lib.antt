@@ -11,4 +11,5 @@ pub mod OneAnswer
 pub mod Legal
 pub mod LegalDimmer
 pub mod LegalAny
+pub mod Anybody
 pub mod Room

@@ -1,10 +1,9 @@
 -- Anybody's ping and ID request are answered.
 use Prim.Native.Nat.{ℕ, _≤_}
-use mathlib.Core.Path.{_≡_, _∙_, ap}
-use mathlib.Core.Bool.{true, false}
+use mathlib.Core.Path.{_≡_, _∙_}
+use mathlib.Core.Bool.{true}
 use mathlib.Core.List.{List}
 use lib.ListN.{length}
-use Rattle.basis.specs.Choice.{choose}
 use Rattle.wire.specs.Bytes.{requestOf, dataOf}
 use Rattle.wire.specs.Kinds.{isDirect}
 use Rattle.wire.specs.Reading.{wellFormed}
@@ -15,7 +14,7 @@ use Rattle.decide.specs.Ruling.{rulingOf}
 use Rattle.decide.proofs.Sender.{exempt-plan}
 use Rattle.device.specs.Step.{stepOf}
 use Rattle.promises.specs.Demand3.{pingOrId}
-use Rattle.promises.specs.Legal.{Effect, Short, ping, id-request, sends}
+use Rattle.promises.specs.Legal.{ping, id-request, sends}
 use Rattle.promises.specs.LegalAny.{Legal, shared}
 use Rattle.promises.specs.Anybody.{Answered, PingAnswered, IdAnswered}
 use Rattle.promises.proofs.Ruled.{commandIn, deedIn, ruled, read-by, unread}
@@ -27,7 +26,8 @@ module _ (m : Module) (l s : List ℕ) (f : isFit l ≡ true) (w : wellFormed s 
   pub ruled-exempt : pingOrId s ≡ true → rulingOf m l s .plan ≡ deedPlan m (requestOf s) (deedIn m l s)
   ruled-exempt x = ruled m l s f w d ∙ exempt-plan m l (requestOf s) (dataOf s) (records l) (commandIn s) (exempt s ∙ x)
 
-  answered : (room bytes : List ℕ) → pingOrId s ≡ true → length bytes ≤ length room → Legal m l s (sends m l bytes) → Answered m l room bytes (stepOf m l s room)
+  answered : (room bytes : List ℕ) → pingOrId s ≡ true → length bytes ≤ length room → Legal m l s (sends m l bytes)
+      → Answered m l room bytes (stepOf m l s room)
   answered room bytes x enough legal =
       record {
         taken = taken-looked-at m l s w (ruled-exempt x) room (sends m l bytes) enough legal;

@@ -30,7 +30,8 @@ pub record Brings (m : Module) (l s : List ℕ) (e : Effect) (p : Plan) : Type 0
 
 -- of a well-formed message of any kind
 pub brought : (m : Module) (l s room : List ℕ) (e : Effect) (p : Plan)
-    → wellFormed s (m .identity .address) ≡ true → length (e .reply) ≤ length room → rulingOf m l s .plan ≡ p → Brings m l s e p → Taken room e (stepOf m l s room)
+    → wellFormed s (m .identity .address) ≡ true → length (e .reply) ≤ length room
+    → rulingOf m l s .plan ≡ p → Brings m l s e p → Taken room e (stepOf m l s room)
 unfolding choose
 brought m l s room e p w enough is b =
     let due : dueTo m l s ≡ e .reply = rw is (b .reply) in
@@ -42,6 +43,12 @@ brought m l s room e p w enough is b =
       reply = rw fits due;
       room-after = rw (fits, due);
     }
+
+-- where the reply fits, the number is the plan's
+pub numbered-by : (m : Module) (l s room : List ℕ) (p : Plan) → rulingOf m l s .plan ≡ p → length (replyOf (m .identity .address) l (p .due)) ≤ length room
+    → numberOf (stepOf m l s room .outcome) ≡ numberOf (p .outcome)
+unfolding choose
+numbered-by m l s room p is enough = rw (is, le-ltb (length room) (length (replyOf (m .identity .address) l (p .due))) enough)
 
 -- which command the bytes name
 pub short-command : (s : List ℕ) (c : ℕ) → Short s c → commandIn s ≡ Command.Standard (standardOf c)

@@ -4,8 +4,6 @@ use mathlib.Core.Path.{_≡_, _∙_, ap}
 use mathlib.Core.Bool.{true}
 use mathlib.Core.List.{List}
 use lib.ListN.{length}
-use borrow.Author.Tests.{le-ltb}
-use Rattle.basis.specs.Choice.{choose}
 use Rattle.wire.specs.Bytes.{requestOf, dataOf}
 use Rattle.wire.specs.Reading.{wellFormed}
 use Rattle.wire.proofs.Heard.{parts}
@@ -24,7 +22,7 @@ use Rattle.device.specs.Step.{stepOf}
 use Rattle.promises.specs.Legal.{Effect, FromLinked, Taken}
 use Rattle.promises.specs.LegalAny.{Legal, shared, dimmer}
 use Rattle.promises.proofs.Ruled.{commandIn, deedIn, ruled-linked}
-use Rattle.promises.proofs.Brings.{Brings, brought}
+use Rattle.promises.proofs.Brings.{Brings, brought, numbered-by}
 use Rattle.promises.proofs.LegalShared.{shared-brings, SharedJudged, listed, other, shared-judged}
 use Rattle.promises.proofs.LegalDimmer.{own-brings, leaves, OwnJudged, own-listed, own-other, left, own-judged}
 
@@ -77,6 +75,4 @@ module _ (m : Module) (l s : List ℕ) where
       where
         go : Judged (deedIn m l s) → numberOf (stepOf m l s room .outcome) ≡ 7
         go (is-listed e x) = absurd (none e x)
-        go (is-other p) = unfold choose in
-            let q : rulingOf m l s .plan ≡ unlisted ReplyType.Nak (requestOf s) = planned ∙ ap (deedPlan m (requestOf s)) p in
-            rw (q, le-ltb (length room) 9 enough)
+        go (is-other p) = numbered-by m l s room (unlisted ReplyType.Nak (requestOf s)) (planned ∙ ap (deedPlan m (requestOf s)) p) enough

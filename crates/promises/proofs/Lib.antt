@@ -9,6 +9,11 @@ pub mod Demand1
 pub mod Demand2
 pub mod Stranger
 pub mod Anybody
+pub mod Firsts
+pub mod Responders
+pub mod Commanded
+pub mod GroupsDimmer
+pub mod Groups
 pub mod Room
 pub mod Demand3
 pub mod OneAnswer

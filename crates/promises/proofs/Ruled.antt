@@ -36,7 +36,8 @@ pub read-as : (m : Module) (s : List ℕ) → wellFormed s (m .identity .address
 unfolding readOf choose
 read-as m s w = let p = parts s (m .identity .address) w in rw (p .0, p .1, p .2)
 
-pub by-kind : (m : Module) (l s : List ℕ) → isFit l ≡ true → wellFormed s (m .identity .address) ≡ true → rulingOf m l s ≡ kindRuling m l (dataOf s) (kindOf s)
+pub by-kind : (m : Module) (l s : List ℕ) → isFit l ≡ true → wellFormed s (m .identity .address) ≡ true
+    → rulingOf m l s ≡ kindRuling m l (dataOf s) (kindOf s)
 unfolding rulingBy choose
 by-kind m l s f w = rw (f, read-as m s w)
 

@@ -12,4 +12,7 @@ pub mod Legal
 pub mod LegalDimmer
 pub mod LegalAny
 pub mod Anybody
+pub mod Responders
+pub mod GroupsDimmer
+pub mod Groups
 pub mod Room

@@ -19,10 +19,11 @@ use Rattle.links.specs.declared.search.Wanted.{Wanted}
 use Rattle.links.specs.Record.{isFit, recordAt, linkOf}
 use Rattle.links.specs.Search.{searchOf}
 use Rattle.reply.specs.declared.due.ReplyType.{ReplyType}
+use Rattle.results.specs.declared.Outcome.{Outcome}
 use Rattle.results.specs.Number.{numberOf}
 use Rattle.module.specs.declared.state.Module.{Module}
 use Rattle.module.specs.declared.deed.GroupDeed.{GroupDeed}
-use Rattle.module.specs.Plan.{unlinked, unlisted}
+use Rattle.module.specs.Plan.{unlinked}
 use Rattle.decide.specs.Dispatch.{groupDeedOf}
 use Rattle.decide.specs.Groups.{isCall, unconcerned, broadcastBy, broadcastPlan, cleanupBy, cleanupPlan}
 use Rattle.decide.specs.Decide.{senderInGroup}
@@ -43,21 +44,29 @@ module _ (m : Module) (s : List ℕ) (link : Link) where
   abbrev command : GroupCommand
   command = groupCommandOf (command1Of s)
 
-  alters : (next : Module) → GroupLegal m s link next → Alters m next (groupDeedOf m command link)
+  pub alters : (next : Module) → GroupLegal m s link next → Alters m next (groupDeedOf m command link)
   alters next (dimmer x) = own-alters m (m .load) s link next x command (commanded (command1Of s))
 
   grouped : (next : Module) → GroupLegal m s link next → GroupCommand1 s
   grouped next (dimmer x) = own-grouped m (m .load) s link next x
 
-  not-listed : ¬ GroupCommand1 s → groupDeedOf m command link ≡ GroupDeed.Unlisted
-  not-listed h = own-unlisted m (m .load) s link command (commanded (command1Of s)) h
+  pub unlisted-deed : ¬ GroupCommand1 s → groupDeedOf m command link ≡ GroupDeed.Unlisted
+  unlisted-deed h = own-unlisted m (m .load) s link command (commanded (command1Of s)) h
 
 pub each-has-row : EachHasRow
 each-has-row m s link h = own-row m s link (groupCommandOf (command1Of s)) (commanded (command1Of s)) h
 
+pub group-command : (s : List ℕ) → GroupCommand1 s ⊎ (¬ GroupCommand1 s)
+group-command s = go (groupCommandOf (command1Of s)) (commanded (command1Of s))
+  where
+    go : (command : GroupCommand) → Commanded (command1Of s) command → GroupCommand1 s ⊎ (¬ GroupCommand1 s)
+    go command (turns-on p q) = inl (p, omega arith)
+    go command (turns-off p q) = inl (omega arith, q)
+    go command (neither none) = inr none
+
 -- which broadcasts call a group
 module _ (s : List ℕ) where
-  abbrev calls : GroupCommand → Bool
+  abbrev pub calls : GroupCommand → Bool
   calls command = isCall (toOf s) command
 
   pub called : ToGroup s → GroupCommand1 s → calls (groupCommandOf (command1Of s)) ≡ true
@@ -81,13 +90,13 @@ module _ (s : List ℕ) where
       go command (turns-off p q) e = (to e, (omega arith, q))
       go command (neither none) e = clash refl (sym e)
 
-  pub uncalled : (l : List ℕ) → calls (groupCommandOf (command1Of s)) ≡ false → Unconcerned l s
-  uncalled l = go (groupCommandOf (command1Of s)) (commanded (command1Of s))
+  pub uncalled : {A : Type 0} → (¬ ToGroup s → A) → (¬ GroupCommand1 s → A) → calls (groupCommandOf (command1Of s)) ≡ false → A
+  uncalled {A} by-to by-command = go (groupCommandOf (command1Of s)) (commanded (command1Of s))
     where
-      go : (command : GroupCommand) → Commanded (command1Of s) command → calls command ≡ false → Unconcerned l s
-      go command (turns-on p q) e = unfit-to (λ to. clash (rw (to .0, to .1)) e)
-      go command (turns-off p q) e = unfit-to (λ to. clash (rw (to .0, to .1)) e)
-      go command (neither none) e = unfit-command none
+      go : (command : GroupCommand) → Commanded (command1Of s) command → calls command ≡ false → A
+      go command (turns-on p q) e = by-to (λ to. clash (rw (to .0, to .1)) e)
+      go command (turns-off p q) e = by-to (λ to. clash (rw (to .0, to .1)) e)
+      go command (neither none) e = by-command none
 
 module _ (m : Module) (l s : List ℕ) (f : isFit l ≡ true) (w : wellFormed s (m .identity .address) ≡ true) where
   module _ (b : isBroadcast s ≡ true) where
@@ -141,7 +150,7 @@ module _ (m : Module) (l s room : List ℕ) where
       brought m l s room (broadcastEffect l next) _ w (omega arith) is (broadcast-brings m l s next _ (alters m s link next x))
 
   pub broadcast-else : BroadcastElse m l s room
-  broadcast-else f w b u = numbered-by m l s room unconcerned (ruled-unconcerned m l s f w b u) (omega arith)
+  broadcast-else f w b u = numbered-by m l s room Outcome.Unconcerned _ (ruled-unconcerned m l s f w b u) (omega arith)
 
   pub cleanup-taken : CleanupTaken m l s room
   cleanup-taken f w c enough k r next x =
@@ -149,7 +158,7 @@ module _ (m : Module) (l s room : List ℕ) where
       brought m l s room (cleanupEffect m l s next) _ w enough (ruled-responder m l s f w c k r) (cleanup-brings m l s next _ (alters m s link next x))
 
   pub cleanup-unlinked : CleanupUnlinked m l s room
-  cleanup-unlinked f w c enough h = numbered-by m l s room (unlinked ReplyType.CleanupNak (requestOf s)) (ruled-no-responder m l s f w c h) enough
+  cleanup-unlinked f w c enough h = numbered-by m l s room Outcome.NotLinked _ (ruled-no-responder m l s f w c h) enough
 
   pub cleanup-else : CleanupElse m l s room
   cleanup-else f w c enough k r h = go (first-or-none l (fromOf s) (command2Of s))
@@ -157,6 +166,6 @@ module _ (m : Module) (l s room : List ℕ) where
       go : SomeFirst l (fromOf s) (command2Of s) ⊎ NoResponder l (fromOf s) (command2Of s) → numberOf (stepOf m l s room .outcome) ≡ 7
       go (inl x) =
           let link = linkOf (recordAt l (x .place)) in
-          let is = ruled-responder m l s f w c (x .place) (x .decides) ∙ ap (cleanupBy (requestOf s)) (not-listed m s link h) in
-          numbered-by m l s room (unlisted ReplyType.CleanupNak (requestOf s)) is enough
+          let is = ruled-responder m l s f w c (x .place) (x .decides) ∙ ap (cleanupBy (requestOf s)) (unlisted-deed m s link h) in
+          numbered-by m l s room Outcome.Unlisted _ is enough
       go (inr nobody) = absurd (nobody k r)

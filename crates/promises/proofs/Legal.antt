@@ -8,13 +8,13 @@ use Rattle.wire.specs.Bytes.{requestOf, dataOf}
 use Rattle.wire.specs.Reading.{wellFormed}
 use Rattle.wire.proofs.Heard.{parts}
 use Rattle.links.specs.Record.{records}
-use Rattle.reply.specs.declared.due.ReplyType.{ReplyType}
+use Rattle.results.specs.declared.Outcome.{Outcome}
 use Rattle.results.specs.Number.{numberOf}
 use Rattle.module.specs.declared.state.Module.{Module}
 use Rattle.module.specs.declared.deed.Deed.{Deed}
 use Rattle.module.specs.declared.deed.Entry.{Entry}
 use Rattle.module.specs.Deed.{settledBy}
-use Rattle.module.specs.Plan.{unlisted, deedPlan}
+use Rattle.module.specs.Plan.{deedPlan}
 use Rattle.shared.specs.Table.{sharedDeed}
 use Rattle.decide.specs.Dispatch.{ownEntry}
 use Rattle.decide.specs.Ruling.{rulingOf}
@@ -75,4 +75,4 @@ module _ (m : Module) (l s : List ℕ) where
       where
         go : Judged (deedIn m l s) → numberOf (stepOf m l s room .outcome) ≡ 7
         go (is-listed e x) = absurd (none e x)
-        go (is-other p) = numbered-by m l s room (unlisted ReplyType.Nak (requestOf s)) (planned ∙ ap (deedPlan m (requestOf s)) p) enough
+        go (is-other p) = numbered-by m l s room Outcome.Unlisted _ (planned ∙ ap (deedPlan m (requestOf s)) p) enough

@@ -14,6 +14,9 @@ pub mod Responders
 pub mod Commanded
 pub mod GroupsDimmer
 pub mod Groups
+pub mod Whens
+pub mod Numbers
+pub mod RecordsRead
 pub mod Room
 pub mod Demand3
 pub mod OneAnswer

@@ -32,7 +32,8 @@ abbrev pub deedIn : Module → List ℕ → List ℕ → Deed
 deedIn m l s = deedOf m (requestOf s) (dataOf s) (records l) (commandIn s)
 
 -- it is read into its kind, its data bytes beside it
-pub read-as : (m : Module) (s : List ℕ) → wellFormed s (m .identity .address) ≡ true → heardBy m s ≡ record { reading = Reading.Heard (kindOf s); «data» = dataOf s }
+pub read-as : (m : Module) (s : List ℕ) → wellFormed s (m .identity .address) ≡ true
+    → heardBy m s ≡ record { reading = Reading.Heard (kindOf s); «data» = dataOf s }
 unfolding readOf choose
 read-as m s w = let p = parts s (m .identity .address) w in rw (p .0, p .1, p .2)
 
@@ -46,7 +47,8 @@ pub read-by : (m : Module) (l s room : List ℕ) → stepOf m l s room .read ≡
 read-by m l s room = either (λ (t : Step). t .read ≡ rulingOf m l s .read) _ refl refl
 
 module _ (m : Module) (l s : List ℕ) (f : isFit l ≡ true) (w : wellFormed s (m .identity .address) ≡ true) (d : isDirect s ≡ true) where
-  pub ruled : rulingOf m l s .plan ≡ directPlan m (requestOf s) (dataOf s) (records l) (commandIn s) (searchOf l (directWanted (requestOf s) (commandIn s)) .found)
+  pub ruled : rulingOf m l s .plan
+      ≡ directPlan m (requestOf s) (dataOf s) (records l) (commandIn s) (searchOf l (directWanted (requestOf s) (commandIn s)) .found)
   unfolding kindOf choose
   ruled = rw (by-kind m l s f w, d)
 

@@ -96,10 +96,14 @@ pub record FromLinked (m : Module) (l s : List ℕ) : Type 0 where
   pub is-direct : isDirect s ≡ true
   pub linked : Linked l (fromOf s)
 
--- the effect was taken: result 0, and all that it says
-pub record Taken (room : List ℕ) (e : Effect) (t : Step) : Type 0 where
-  pub result : numberOf (t .outcome) ≡ 0
+-- a step ends with result n and this effect, and the room holds the reply and its old rest
+pub record Ends (room : List ℕ) (n : ℕ) (e : Effect) (t : Step) : Type 0 where
+  pub result : numberOf (t .outcome) ≡ n
   pub next : t .next ≡ e .next
   pub links : t .links ≡ e .links
   pub reply : t .reply ≡ e .reply
   pub room-after : t .room ≡ laid (e .reply) room
+
+-- the effect was taken: result 0, and all that it says
+abbrev pub Taken : List ℕ → Effect → Step → Type 0
+Taken room e t = Ends room 0 e t

@@ -15,4 +15,6 @@ pub mod Anybody
 pub mod Responders
 pub mod GroupsDimmer
 pub mod Groups
+pub mod Numbers
+pub mod RecordsRead
 pub mod Room

@@ -10,10 +10,9 @@ use lib.ListN.{length}
 use borrow.Author.Tests.{eqb-true, ltb-true, ltb-false}
 use Rattle.basis.specs.Choice.{choose}
 use Rattle.basis.proofs.Tests.{clash}
-use Rattle.wire.specs.Bytes.{fromOf, toOf, command1Of, command2Of, requestOf, dataOf, isWhole}
+use Rattle.wire.specs.Bytes.{fromOf, toOf, command1Of, command2Of, requestOf, dataOf}
 use Rattle.wire.specs.Commands.{groupCommandOf}
-use Rattle.wire.specs.Kinds.{typeOf, isDirect, isCleanup, isBroadcast, isForeign}
-use Rattle.wire.specs.Checksum.{isSumWrong}
+use Rattle.wire.specs.Kinds.{typeOf, isDirect, isCleanup, isBroadcast}
 use Rattle.wire.specs.Reading.{wellFormed, readOf}
 use Rattle.links.specs.Record.{isFit, records, recordAt, linkOf}
 use Rattle.links.specs.Live.{Linked}
@@ -36,7 +35,7 @@ use Rattle.promises.specs.Legal.{Effect}
 use Rattle.promises.specs.LegalAny.{Legal}
 use Rattle.promises.specs.Responders.{NoResponder}
 use Rattle.promises.specs.Groups.{GroupCommand1, Unconcerned, unfit-to, unfit-command, no-responder}
-use Rattle.promises.specs.Numbers.{When2, When1, When3, other-type, When4, When8, When6, not-linked, no-record, When7, not-listed, no-group-command}
+use Rattle.promises.specs.Numbers.{When2, When1, When3, When4, When8, When6, not-linked, no-record, When7, not-listed, no-group-command}
 use Rattle.promises.specs.Numbers.{direct, cleanup, broadcast, Sound, IsCarriedOut, Line, two, one, three, four, eight, six, seven, zero}
 use Rattle.promises.specs.Numbers.{Given, fits, five, NumbersGiven, LinesHold, ElseCarriedOut}
 use Rattle.promises.proofs.Ruled.{commandIn, deedIn, ruled, ruled-linked}
@@ -47,8 +46,8 @@ use Rattle.promises.proofs.Anybody.{ruled-exempt}
 use Rattle.promises.proofs.Responders.{SomeFirst, first-or-none}
 use Rattle.promises.proofs.Groups.{group-command, alters, unlisted-deed, each-has-row, broadcast-brings, cleanup-brings}
 use Rattle.promises.proofs.Groups.{calls, calling, uncalled, ruled-first, ruled-unconcerned, ruled-responder, ruled-no-responder}
-use Rattle.promises.proofs.Whens
-use Rattle.promises.proofs.Whens.{holds, apart, unfit, unwhole, foreign, sound, is-fit, is-whole, is-ours, is-unfit, is-unwhole, is-foreign, well-formed}
+use Rattle.promises.proofs.Whens.{holds, apart, is-fit, is-whole, is-ours, is-unfit, is-unwhole, is-foreign, well-formed}
+use Rattle.promises.proofs.Whens.{Standing, at-2, at-1, at-3, at-4, as-direct, as-cleanup, as-broadcast, standing}
 use Rattle.promises.proofs.Demand1.{numbered}
 
 module _ (m : Module) (l s : List ℕ) where
@@ -228,26 +227,17 @@ module _ (m : Module) (l s : List ℕ) where
               let x = each-has-row m s (linkOf (recordAt l (r .place))) (calling s e .1) in
               on (zero h (λ y. no-8 e r (y .1)) no-6 no-7 _ (broadcast (r .place) (x .next) b (r .decides) (x .row)))
 
-    -- by the message's type
-    kind-line : HasLine
-    kind-line = go (isDirect s) refl (isCleanup s) refl (isBroadcast s) refl
-      where
-        go : (a : Bool) → isDirect s ≡ a → (b : Bool) → isCleanup s ≡ b → (c : Bool) → isBroadcast s ≡ c → HasLine
-        go true d b _ c _ = direct-line d
-        go false _ true d c _ = cleanup-line d
-        go false _ false _ true d = broadcast-line d
-        go false p false q false r = absurd (h .ours (other-type p q r))
-
   pub has-line : HasLine
-  has-line = go (isFit l) refl (isWhole s) refl (isForeign s (m .identity .address)) refl (isSumWrong s) refl
+  has-line = go (standing m l s)
     where
-      go : (a : Bool) → isFit l ≡ a → (b : Bool) → isWhole s ≡ b → (c : Bool) → isForeign s (m .identity .address) ≡ c
-          → (d : Bool) → isSumWrong s ≡ d → HasLine
-      go false f b w c o d r = on (two (unfit l f))
-      go true f false w c o d r = on (one (Whens.fit l f) (unwhole s w))
-      go true f true w true o d r = on (three (Whens.fit l f) (Whens.whole s w) (foreign m s o))
-      go true f true w false o true r = on (four (Whens.fit l f) (Whens.whole s w) (Whens.ours m s o) r)
-      go true f true w false o false r = kind-line (sound m l s f w o r)
+      go : Standing m l s → HasLine
+      go (at-2 x) = on (two x)
+      go (at-1 a x) = on (one a x)
+      go (at-3 a b x) = on (three a b x)
+      go (at-4 a b c x) = on (four a b c x)
+      go (as-direct h d) = direct-line h d
+      go (as-cleanup h c) = cleanup-line h c
+      go (as-broadcast h b) = broadcast-line h b
 
 -- where 2, 1, 3, 4, 8, 6 and 7 do not apply, its line is that of 0
 pub else-carried-out : ElseCarriedOut

@@ -1,18 +1,17 @@
 -- As many records are read as the places of records say.
-use Prim.Native.Nat.{ℕ, _+_, _<_}
+use Prim.Native.Nat.{ℕ, _+_}
 use mathlib.Core.Path.{_≡_, refl, sym, _∙_, ap}
 use mathlib.Core.Bool.{Bool, true, false}
 use mathlib.Core.List.{List}
 use borrow.Author.Tests.{eqb-true}
 use Rattle.basis.specs.Choice.{choose}
 use Rattle.basis.proofs.Tests.{clash}
-use Rattle.wire.specs.Bytes.{fromOf, toOf, command1Of, command2Of, isWhole}
+use Rattle.wire.specs.Bytes.{fromOf, toOf, command1Of, command2Of}
 use Rattle.wire.specs.Commands.{groupCommandOf}
-use Rattle.wire.specs.Kinds.{typeOf, isDirect, isCleanup, isBroadcast, isForeign, kindOf}
-use Rattle.wire.specs.Checksum.{isSumWrong}
+use Rattle.wire.specs.Kinds.{typeOf, isDirect, isCleanup, isBroadcast, kindOf}
 use Rattle.links.specs.declared.search.Wanted.{Wanted}
 use Rattle.links.specs.declared.search.Searched.{Searched}
-use Rattle.links.specs.Record.{isFit, records, recordAt, isEndMark}
+use Rattle.links.specs.Record.{isFit, recordAt, isEndMark}
 use Rattle.links.specs.Live.{FirstUnused}
 use Rattle.links.specs.Search.{isSought, searchOf}
 use Rattle.links.specs.Settled.{LiveMatch, Settled, matched, ended, exhausted}
@@ -21,7 +20,7 @@ use Rattle.module.specs.declared.state.Module.{Module}
 use Rattle.decide.specs.Ruling.{rulingOf}
 use Rattle.promises.specs.Demand3.{pingOrId}
 use Rattle.promises.specs.Groups.{ToGroup, GroupCommand1}
-use Rattle.promises.specs.Numbers.{other-type, Sound}
+use Rattle.promises.specs.Numbers.{Sound}
 use Rattle.promises.specs.RecordsRead.{Sought, of-sender, of-cleanup, of-broadcast, Reads, none, matching, end-mark, all, RecordsRead}
 use Rattle.promises.specs.RecordsRead.{NoSearch, ping-or-id, result-1, result-2, result-3, result-4, unfit-to, unfit-command}
 use Rattle.promises.proofs.Ruled.{by-kind, read-by, unread}
@@ -29,7 +28,7 @@ use Rattle.promises.proofs.Firsts.{one-first}
 use Rattle.promises.proofs.Stranger.{exempt}
 use Rattle.promises.proofs.Responders.{as-match, as-responder}
 use Rattle.promises.proofs.Groups.{calls, calling, uncalled}
-use Rattle.promises.proofs.Whens.{apart, unfit, fit, unwhole, whole, foreign, ours, sound, is-fit, well-formed}
+use Rattle.promises.proofs.Whens.{apart, is-fit, well-formed, Standing, at-2, at-1, at-3, at-4, as-direct, as-cleanup, as-broadcast, standing}
 use Rattle.promises.proofs.Numbers.{ruled-2, ruled-1, ruled-3, ruled-4}
 
 -- one count
@@ -141,25 +140,17 @@ module _ (m : Module) (l s : List ℕ) where
           from k (of-broadcast _ x) = as-match l (fromOf s) (toOf s .low) k x
       broadcast-reads false e = rw (no-call-read e) (none (uncalled s (unfit-to b) (unfit-command b) e))
 
-    kind-reads : Reads m l s (rulingOf m l s .read)
-    kind-reads = go (isDirect s) refl (isCleanup s) refl (isBroadcast s) refl
-      where
-        go : (a : Bool) → isDirect s ≡ a → (b : Bool) → isCleanup s ≡ b → (c : Bool) → isBroadcast s ≡ c → Reads m l s (rulingOf m l s .read)
-        go true d b _ c _ = direct-reads d (pingOrId s) refl
-        go false _ true d c _ = cleanup-reads d
-        go false _ false _ true d = broadcast-reads d (calls s (groupCommandOf (command1Of s))) refl
-        go false p false q false r = absurd (h .ours (other-type p q r))
-
   reads : Reads m l s (rulingOf m l s .read)
-  reads = go (isFit l) refl (isWhole s) refl (isForeign s (m .identity .address)) refl (isSumWrong s) refl
+  reads = go (standing m l s)
     where
-      go : (a : Bool) → isFit l ≡ a → (b : Bool) → isWhole s ≡ b → (c : Bool) → isForeign s (m .identity .address) ≡ c
-          → (d : Bool) → isSumWrong s ≡ d → Reads m l s (rulingOf m l s .read)
-      go false f b w c o d r = rw (ruled-2 m l s (unfit l f)) (none (result-2 (unfit l f)))
-      go true f false w c o d r = rw (ruled-1 m l s (fit l f) (unwhole s w)) (none (result-1 (unwhole s w)))
-      go true f true w true o d r = rw (ruled-3 m l s (fit l f) (whole s w) (foreign m s o)) (none (result-3 (foreign m s o)))
-      go true f true w false o true r = rw (ruled-4 m l s (fit l f) (whole s w) (ours m s o) r) (none (result-4 r))
-      go true f true w false o false r = kind-reads (sound m l s f w o r)
+      go : Standing m l s → Reads m l s (rulingOf m l s .read)
+      go (at-2 x) = rw (ruled-2 m l s x) (none (result-2 x))
+      go (at-1 a x) = rw (ruled-1 m l s a x) (none (result-1 x))
+      go (at-3 a b x) = rw (ruled-3 m l s a b x) (none (result-3 x))
+      go (at-4 a b c x) = rw (ruled-4 m l s a b c x) (none (result-4 x))
+      go (as-direct h d) = direct-reads h d (pingOrId s) refl
+      go (as-cleanup h c) = cleanup-reads h c
+      go (as-broadcast h b) = broadcast-reads h b (calls s (groupCommandOf (command1Of s))) refl
 
 pub records-read : RecordsRead
 records-read m l s room n = (λ e. rw (sym (read-by m l s room) ∙ e) at (reads m l s), λ x. read-by m l s room ∙ one-count m l s _ n (reads m l s) x)

@@ -40,7 +40,7 @@ apart s a b differ p q = clash (eq-eqb a b (sym (eqb-true (typeOf s) a p) ∙ eq
 
 -- 2
 module _ (l : List ℕ) where
-  pub unfit : isFit l ≡ false → When2 l
+  unfit : isFit l ≡ false → When2 l
   unfit = go (leb 1 (length l)) (leb (length l) 2048) (eqb (length l % 8) 0) refl refl refl
     where
       go : (a b c : Bool) → leb 1 (length l) ≡ a → leb (length l) 2048 ≡ b → eqb (length l % 8) 0 ≡ c → a && b && c ≡ false → When2 l
@@ -49,7 +49,7 @@ module _ (l : List ℕ) where
       go true true false p q r e = no-multiple (eqb-false (length l % 8) 0 r)
       go true true true p q r e = clash refl e
 
-  pub fit : isFit l ≡ true → ¬ When2 l
+  fit : isFit l ≡ true → ¬ When2 l
   fit h = go (leb-true 1 (length l) (ends .0)) (leb-true (length l) 2048 (ends .1)) (eqb-true (length l % 8) 0 (parts .1))
     where
       parts : (within 1 2048 (length l) ≡ true) × (eqb (length l % 8) 0 ≡ true)
@@ -65,7 +65,7 @@ module _ (l : List ℕ) where
 
 -- 1
 module _ (s : List ℕ) where
-  pub unwhole : isWhole s ≡ false → When1 s
+  unwhole : isWhole s ≡ false → When1 s
   unfolding choose
   unwhole h = go (isExtended s) refl (eqb (length s) 9) refl (eqb (length s) 23) refl (eqb-false (length s) _ h)
     where
@@ -75,7 +75,7 @@ module _ (s : List ℕ) where
       go false x a b true c n = long-but-clear (eqb-true (length s) 23 c) x
       go false x a b false c n = other-length n (eqb-false (length s) 23 c)
 
-  pub whole : isWhole s ≡ true → ¬ When1 s
+  whole : isWhole s ≡ true → ¬ When1 s
   whole h (other-length a b) = a (nine s h b)
   whole h (short-but-set e x) = clash x (by-length s h ∙ rw e)
   whole h (long-but-clear e x) = clash (by-length s h ∙ rw e) x
@@ -85,7 +85,7 @@ module _ (m : Module) (s : List ℕ) where
   abbrev ourselves : Bool
   ourselves = equals (toOf s) (m .identity .address)
 
-  pub foreign : isForeign s (m .identity .address) ≡ true → When3 m s
+  foreign : isForeign s (m .identity .address) ≡ true → When3 m s
   foreign h = go (one-of (isUnheard s) (isAstray s (m .identity .address)) h)
     where
       unheard : (not (isDirect s || isCleanup s || isBroadcast s) ≡ true) ⊎ (isExtended s && not (isDirect s) ≡ true) → When3 m s
@@ -103,7 +103,7 @@ module _ (m : Module) (s : List ℕ) where
       go (inl e) = unheard (one-of (not (isDirect s || isCleanup s || isBroadcast s)) _ e)
       go (inr e) = let p = both (isDirect s || isCleanup s) (not ourselves) e in astray (one-of (isDirect s) (isCleanup s) (p .0)) (not-true ourselves (p .1))
 
-  pub ours : isForeign s (m .identity .address) ≡ false → ¬ When3 m s
+  ours : isForeign s (m .identity .address) ≡ false → ¬ When3 m s
   ours h = go (unheard .0) (unheard .1) (parts .1)
     where
       parts : (isUnheard s ≡ false) × (isAstray s (m .identity .address) ≡ false)
@@ -119,11 +119,8 @@ module _ (m : Module) (s : List ℕ) where
       go a b c (direct-astray p q) = clash (rw (p, q)) c
       go a b c (cleanup-astray p q) = clash (rw (eqb-true (typeOf s) 2 p, q)) c
 
--- none of them, and well-formed
+-- the tests, where they apply and where not
 module _ (m : Module) (l s : List ℕ) where
-  pub sound : isFit l ≡ true → isWhole s ≡ true → isForeign s (m .identity .address) ≡ false → isSumWrong s ≡ false → Sound m l s
-  sound f w o r = record { fit = fit l f; whole = whole s w; ours = ours m s o; right = λ e. clash e r }
-
   pub is-fit : ¬ When2 l → isFit l ≡ true
   is-fit h = holds (isFit l) (unfit l) h
 
@@ -144,3 +141,33 @@ module _ (m : Module) (l s : List ℕ) where
 
   pub well-formed : Sound m l s → wellFormed s (m .identity .address) ≡ true
   well-formed h = rw (is-whole (h .whole), is-ours (h .ours), fails {W = When4 s} (isSumWrong s) (λ e. e) (h .right))
+
+  -- where a message stands in the order: refused by 2, 1, 3 or 4, or of one of three types
+  pub data Standing : Type 0 where
+    at-2 : When2 l → Standing
+    at-1 : ¬ When2 l → When1 s → Standing
+    at-3 : ¬ When2 l → ¬ When1 s → When3 m s → Standing
+    at-4 : ¬ When2 l → ¬ When1 s → ¬ When3 m s → When4 s → Standing
+    as-direct : Sound m l s → isDirect s ≡ true → Standing
+    as-cleanup : Sound m l s → isCleanup s ≡ true → Standing
+    as-broadcast : Sound m l s → isBroadcast s ≡ true → Standing
+
+  by-type : Sound m l s → Standing
+  by-type h = go (isDirect s) refl (isCleanup s) refl (isBroadcast s) refl
+    where
+      go : (a : Bool) → isDirect s ≡ a → (b : Bool) → isCleanup s ≡ b → (c : Bool) → isBroadcast s ≡ c → Standing
+      go true d b _ c _ = as-direct h d
+      go false _ true d c _ = as-cleanup h d
+      go false _ false _ true d = as-broadcast h d
+      go false p false q false r = absurd (h .ours (other-type p q r))
+
+  pub standing : Standing
+  standing = go (isFit l) refl (isWhole s) refl (isForeign s (m .identity .address)) refl (isSumWrong s) refl
+    where
+      go : (a : Bool) → isFit l ≡ a → (b : Bool) → isWhole s ≡ b → (c : Bool) → isForeign s (m .identity .address) ≡ c
+          → (d : Bool) → isSumWrong s ≡ d → Standing
+      go false f b w c o d r = at-2 (unfit l f)
+      go true f false w c o d r = at-1 (fit l f) (unwhole s w)
+      go true f true w true o d r = at-3 (fit l f) (whole s w) (foreign m s o)
+      go true f true w false o true r = at-4 (fit l f) (whole s w) (ours m s o) r
+      go true f true w false o false r = by-type (record { fit = fit l f; whole = whole s w; ours = ours m s o; right = λ e. clash e r })

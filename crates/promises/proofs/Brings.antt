@@ -11,6 +11,7 @@ use Rattle.wire.specs.declared.command.Command.{Command}
 use Rattle.wire.specs.Bytes.{dataOf}
 use Rattle.wire.specs.Commands.{standardOf, extendedOf}
 use Rattle.wire.specs.Reading.{wellFormed}
+use Rattle.wire.proofs.Heard.{heard}
 use Rattle.reply.specs.declared.due.Due.{Due}
 use Rattle.reply.specs.Reply.{replyOf}
 use Rattle.results.specs.declared.Outcome.{Outcome}
@@ -23,7 +24,7 @@ use Rattle.decide.specs.Ruling.{heardBy, rulingOf}
 use Rattle.device.specs.Step.{linksAfter, stepOf}
 use Rattle.promises.specs.Legal.{Effect, Short, Long, sends, Ends, Taken}
 use Rattle.promises.specs.Room.{dueTo}
-use Rattle.promises.proofs.Ruled.{commandIn, read-as}
+use Rattle.promises.proofs.Ruled.{commandIn}
 
 pub record Brings (m : Module) (l s : List ℕ) (e : Effect) (p : Plan) : Type 0 where
   pub done : numberOf (p .outcome) ≡ 0
@@ -40,7 +41,7 @@ pub record Comes (m : Module) (l s : List ℕ) (n : ℕ) (e : Effect) (p : Plan)
 
 module _ (m : Module) (l s : List ℕ) where
   pub as-done : (e : Effect) (p : Plan) → wellFormed s (m .identity .address) ≡ true → Brings m l s e p → Comes m l s 0 e p
-  as-done e p w b = record { number = b .done; next = b .next; links = rw (read-as m s w) (b .links); reply = b .reply }
+  as-done e p w b = record { number = b .done; next = b .next; links = rw (heard s (m .identity .address) w) (b .links); reply = b .reply }
 
   -- a refusal alters nothing
   pub refuses : (o : Outcome) (due : Due) → Comes m l s (numberOf o) (sends m l (replyOf (m .identity .address) l due)) (refused o due)

@@ -14,6 +14,7 @@ use Rattle.wire.specs.Bytes.{fromOf, toOf, command1Of, command2Of, requestOf, d
 use Rattle.wire.specs.Commands.{groupCommandOf}
 use Rattle.wire.specs.Kinds.{typeOf, isCleanup, isBroadcast, kindOf}
 use Rattle.wire.specs.Reading.{wellFormed}
+use Rattle.wire.proofs.Commanded.{Commanded, turns-on, turns-off, neither, commanded}
 use Rattle.links.specs.declared.memory.Link.{Link}
 use Rattle.links.specs.declared.search.Wanted.{Wanted}
 use Rattle.links.specs.Record.{isFit, recordAt, linkOf}
@@ -36,7 +37,6 @@ use Rattle.promises.specs.Groups.{BroadcastTaken, BroadcastElse, Cleanup
 use Rattle.promises.proofs.Ruled.{by-kind}
 use Rattle.promises.proofs.Brings.{Brings, brought, numbered-by}
 use Rattle.promises.proofs.Responders.{found-first, found-none, SomeFirst, first-or-none}
-use Rattle.promises.proofs.Commanded.{Commanded, turns-on, turns-off, neither, commanded}
 use Rattle.promises.proofs.GroupsDimmer.{Alters, own-alters, own-grouped, own-unlisted, own-row}
 
 -- by the module's kind

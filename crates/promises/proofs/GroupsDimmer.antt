@@ -5,6 +5,7 @@ use mathlib.Core.List.{List}
 use native.Mathlib.Omega.{arith}
 use Rattle.wire.specs.declared.command.GroupCommand.{GroupCommand}
 use Rattle.wire.specs.Bytes.{command1Of}
+use Rattle.wire.proofs.Commanded.{Commanded, turns-on, turns-off, neither}
 use Rattle.links.specs.declared.memory.Link.{Link}
 use Rattle.module.specs.declared.state.Lamp.{Lamp}
 use Rattle.module.specs.declared.state.Module.{Module}
@@ -15,7 +16,6 @@ use Rattle.dimmer.specs.Groups.{groupDeed}
 use Rattle.device.specs.Step.{linksAfter}
 use Rattle.promises.specs.GroupsDimmer.{GroupDimmer, on, off}
 use Rattle.promises.specs.Groups.{GroupCommand1, dimmer, HasRow}
-use Rattle.promises.proofs.Commanded.{Commanded, turns-on, turns-off, neither}
 
 -- a deed that makes another of the module and leaves link memory alone
 pub record Alters (m after : Module) (deed : GroupDeed) : Type 0 where

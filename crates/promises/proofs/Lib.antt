@@ -9,9 +9,7 @@ pub mod Demand1
 pub mod Demand2
 pub mod Stranger
 pub mod Anybody
-pub mod Firsts
 pub mod Responders
-pub mod Commanded
 pub mod GroupsDimmer
 pub mod Groups
 pub mod Whens

@@ -6,6 +6,7 @@ use mathlib.Core.List.{List}
 use borrow.Author.Tests.{eqb-true}
 use Rattle.basis.specs.Choice.{choose}
 use Rattle.basis.proofs.Tests.{clash}
+use Rattle.basis.proofs.First.{one-first}
 use Rattle.wire.specs.Bytes.{fromOf, toOf, command1Of, command2Of}
 use Rattle.wire.specs.Commands.{groupCommandOf}
 use Rattle.wire.specs.Kinds.{typeOf, isDirect, isCleanup, isBroadcast, kindOf}
@@ -24,7 +25,6 @@ use Rattle.promises.specs.Numbers.{Sound}
 use Rattle.promises.specs.RecordsRead.{Sought, of-sender, of-cleanup, of-broadcast, Reads, none, matching, end-mark, all, RecordsRead}
 use Rattle.promises.specs.RecordsRead.{NoSearch, ping-or-id, result-1, result-2, result-3, result-4, unfit-to, unfit-command}
 use Rattle.promises.proofs.Ruled.{by-kind, read-by, unread}
-use Rattle.promises.proofs.Firsts.{one-first}
 use Rattle.promises.proofs.Stranger.{exempt}
 use Rattle.promises.proofs.Responders.{as-match, as-responder}
 use Rattle.promises.proofs.Groups.{calls, calling, uncalled}

@@ -7,6 +7,7 @@ use mathlib.Core.Logic.{_⊎_, inl, inr}
 use lib.Dec.{eqb}
 use borrow.Author.Tests.{eq-eqb, eqb-true}
 use Rattle.basis.proofs.Tests.{both}
+use Rattle.basis.proofs.First.{one-first}
 use Rattle.wire.specs.declared.address.Address.{Address}
 use Rattle.links.specs.declared.memory.Link.{Link}
 use Rattle.links.specs.declared.search.Wanted.{Wanted}
@@ -16,7 +17,6 @@ use Rattle.links.specs.Search.{searchOf, ifFound}
 use Rattle.links.specs.Settled.{LiveMatch, Settled, matched, ended, exhausted}
 use Rattle.links.proofs.Settled.{settled}
 use Rattle.promises.specs.Responders.{Responder, FirstResponder, NoResponder}
-use Rattle.promises.proofs.Firsts.{one-first}
 
 module _ (l : List ℕ) (a : Address) (g : ℕ) where
   abbrev wanted : Wanted

@@ -7,10 +7,9 @@ use Rattle.basis.specs.Choice.{choose}
 use Rattle.basis.proofs.Choice.{either}
 use Rattle.wire.specs.declared.command.Command.{Command}
 use Rattle.wire.specs.Bytes.{fromOf, command1Of, requestOf, dataOf, isExtended}
-use Rattle.wire.specs.declared.kind.Reading.{Reading}
 use Rattle.wire.specs.Kinds.{isDirect, commandOf, kindOf}
-use Rattle.wire.specs.Reading.{wellFormed, readOf}
-use Rattle.wire.proofs.Heard.{parts}
+use Rattle.wire.specs.Reading.{wellFormed}
+use Rattle.wire.proofs.Heard.{heard}
 use Rattle.links.specs.Record.{isFit, records}
 use Rattle.links.specs.Live.{Linked}
 use Rattle.links.specs.Search.{searchOf}
@@ -19,7 +18,7 @@ use Rattle.module.specs.declared.deed.Deed.{Deed}
 use Rattle.module.specs.Plan.{deedPlan}
 use Rattle.decide.specs.Dispatch.{deedOf}
 use Rattle.decide.specs.Decide.{needsNoLink, directWanted, directPlan}
-use Rattle.decide.specs.Ruling.{heardBy, kindRuling, rulingBy, rulingOf}
+use Rattle.decide.specs.Ruling.{kindRuling, rulingBy, rulingOf}
 use Rattle.decide.proofs.Sender.{linked-plan}
 use Rattle.device.specs.Step.{Step, stepOf}
 
@@ -31,16 +30,10 @@ commandIn s = commandOf (isExtended s) (command1Of s)
 abbrev pub deedIn : Module → List ℕ → List ℕ → Deed
 deedIn m l s = deedOf m (requestOf s) (dataOf s) (records l) (commandIn s)
 
--- it is read into its kind, its data bytes beside it
-pub read-as : (m : Module) (s : List ℕ) → wellFormed s (m .identity .address) ≡ true
-    → heardBy m s ≡ record { reading = Reading.Heard (kindOf s); «data» = dataOf s }
-unfolding readOf choose
-read-as m s w = let p = parts s (m .identity .address) w in rw (p .0, p .1, p .2)
-
 pub by-kind : (m : Module) (l s : List ℕ) → isFit l ≡ true → wellFormed s (m .identity .address) ≡ true
     → rulingOf m l s ≡ kindRuling m l (dataOf s) (kindOf s)
 unfolding rulingBy choose
-by-kind m l s f w = rw (f, read-as m s w)
+by-kind m l s f w = rw (f, heard s (m .identity .address) w)
 
 -- the room has no say in the number of records read
 pub read-by : (m : Module) (l s room : List ℕ) → stepOf m l s room .read ≡ rulingOf m l s .read

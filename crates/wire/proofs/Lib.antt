@@ -2,3 +2,4 @@
 pub mod Whole
 pub mod Complement
 pub mod Heard
+pub mod Commanded

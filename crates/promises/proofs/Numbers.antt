@@ -1,6 +1,6 @@
 -- Every result is the one that its line of the table says.
 use Prim.Native.Nat.{ℕ, _≤_}
-use mathlib.Core.Path.{_≡_, refl, _∙_, ap}
+use mathlib.Core.Path.{_≡_, refl, sym, _∙_, ap}
 use mathlib.Core.Bool.{Bool, true, false}
 use mathlib.Core.List.{List}
 use mathlib.Core.Logic.{_⊎_, inl, inr}
@@ -37,7 +37,7 @@ use Rattle.promises.specs.Responders.{NoResponder}
 use Rattle.promises.specs.Groups.{GroupCommand1, Unconcerned, unfit-to, unfit-command, no-responder}
 use Rattle.promises.specs.Numbers.{When2, When1, When3, When4, When8, When6, not-linked, no-record, When7, not-listed, no-group-command}
 use Rattle.promises.specs.Numbers.{direct, cleanup, broadcast, Sound, IsCarriedOut, Line, two, one, three, four, eight, six, seven, zero}
-use Rattle.promises.specs.Numbers.{Given, fits, five, NumbersGiven, LinesHold, ElseCarriedOut}
+use Rattle.promises.specs.Numbers.{Given, fits, five, NumbersGiven, LinesHold, OneLine, ElseCarriedOut}
 use Rattle.promises.proofs.Ruled.{commandIn, deedIn, ruled, ruled-linked}
 use Rattle.promises.proofs.Brings.{Comes, as-done, refuses, ends, ends-short}
 use Rattle.promises.proofs.Legal.{Judged, is-listed, is-other, judged, fulfils}
@@ -252,6 +252,14 @@ else-carried-out m l s h no-8 no-6 no-7 = go (has-line m l s .line)
     go (six _ a x) = absurd (no-6 x)
     go (seven _ a b x) = absurd (no-7 x)
     go (zero _ a b c e x) = record { effect = e; row = x }
+
+pub one-line : OneLine
+one-line m l s n k e f x y =
+    let a = comes m l s n e x in
+    let b = comes m l s k f y in (
+      sym (a .number) ∙ b .number,
+      λ i. record { next = (sym (a .next) ∙ b .next) i; links = (sym (a .links) ∙ b .links) i; reply = (sym (a .reply) ∙ b .reply) i },
+    )
 
 pub lines-hold : LinesHold
 lines-hold m l s room n e x =

@@ -1,6 +1,6 @@
 -- As many records are read as the places of records say.
-use Prim.Native.Nat.{ℕ, _+_}
-use mathlib.Core.Path.{_≡_, refl, sym, _∙_, ap}
+use Prim.Native.Nat.{ℕ}
+use mathlib.Core.Path.{_≡_, refl, sym, _∙_}
 use mathlib.Core.Bool.{Bool, true, false}
 use mathlib.Core.List.{List}
 use borrow.Author.Tests.{eqb-true}
@@ -37,21 +37,18 @@ module _ (m : Module) (l s : List ℕ) where
   one-mark j k x y =
       one-first (λ (i : ℕ). isEndMark (recordAt l i) ≡ true) j k (x .unused) (λ i h e. clash e (x .before i h)) (y .unused) (λ i h e. clash e (y .before i h))
 
-  next : {j k : ℕ} → j ≡ k → j + 1 ≡ k + 1
-  next = ap (λ (i : ℕ). i + 1)
-
   one-count : (a b : ℕ) → Reads m l s a → Reads m l s b → a ≡ b
   one-count a b (none x) (none y) = refl
   one-count a b (none x) (matching n k y z) = absurd (n x)
   one-count a b (none x) (end-mark n k y z) = absurd (n x)
   one-count a b (none x) (all n y z) = absurd (n x)
   one-count a b (matching n j x v) (none y) = absurd (n y)
-  one-count a b (matching n j x v) (matching _ k y z) = next (one-first (Sought l s) j k x v y z)
+  one-count a b (matching n j x v) (matching _ k y z) = rw (one-first (Sought l s) j k x v y z)
   one-count a b (matching n j x v) (end-mark _ k y z) = absurd (z j x)
   one-count a b (matching n j x v) (all _ y z) = absurd (z j x)
   one-count a b (end-mark n j x v) (none y) = absurd (n y)
   one-count a b (end-mark n j x v) (matching _ k y z) = absurd (v k y)
-  one-count a b (end-mark n j x v) (end-mark _ k y z) = next (one-mark j k x y)
+  one-count a b (end-mark n j x v) (end-mark _ k y z) = rw (one-mark j k x y)
   one-count a b (end-mark n j x v) (all _ y z) = clash (x .unused) (y j (x .inside))
   one-count a b (all n x v) (none y) = absurd (n y)
   one-count a b (all n x v) (matching _ k y z) = absurd (v k y)

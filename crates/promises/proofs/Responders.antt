@@ -1,7 +1,7 @@
 -- What a search for a responder finds.
 use Prim.Native.Nat.{ℕ, _<_}
 use mathlib.Core.Path.{_≡_, refl}
-use mathlib.Core.Bool.{_&&_}
+use mathlib.Core.Bool.{Bool, true, _&&_}
 use mathlib.Core.List.{List}
 use mathlib.Core.Logic.{_⊎_, inl, inr}
 use lib.Dec.{eqb}
@@ -18,13 +18,16 @@ use Rattle.links.specs.Settled.{LiveMatch, Settled, matched, ended, exhausted}
 use Rattle.links.proofs.Settled.{settled}
 use Rattle.promises.specs.Responders.{Responder, FirstResponder, NoResponder}
 
+all-three : (a b c : Bool) → a ≡ true → b ≡ true → c ≡ true → a && b && c ≡ true
+all-three a b c p q r = rw (p, q, r)
+
 module _ (l : List ℕ) (a : Address) (g : ℕ) where
   abbrev wanted : Wanted
   wanted = Wanted.Responder a g
 
   -- what is looked for is a responder of that sender and group
   pub as-match : (k : ℕ) → Responder l a g k → LiveMatch l wanted k
-  as-match k r = record { live = r .live; wanted = rw (r .its, r .responds, eq-eqb (linkOf (recordAt l k) .group) g (r .in-group)) }
+  as-match k r = record { live = r .live; wanted = all-three _ _ _ (r .its) (r .responds) (eq-eqb (linkOf (recordAt l k) .group) g (r .in-group)) }
 
   pub as-responder : (k : ℕ) → LiveMatch l wanted k → Responder l a g k
   as-responder k m =

@@ -106,6 +106,10 @@ pub record AsTheLine (m : Module) (l s room : List ℕ) (n : ℕ) (e : Effect) :
 abbrev pub LinesHold : Type 0
 LinesHold = (m : Module) (l s room : List ℕ) (n : ℕ) (e : Effect) → Line m l s n e → AsTheLine m l s room n e
 
+-- a message has one line
+abbrev pub OneLine : Type 0
+OneLine = (m : Module) (l s : List ℕ) (n k : ℕ) (e f : Effect) → Line m l s n e → Line m l s k f → (n ≡ k) × (e ≡ f)
+
 -- where no other line applies, the tables say what is carried out
 abbrev pub ElseCarriedOut : Type 0
 ElseCarriedOut = (m : Module) (l s : List ℕ) → Sound m l s → ¬ When8 l s → ¬ When6 l s → ¬ When7 m l s → IsCarriedOut m l s

@@ -1,5 +1,5 @@
 -- Every result is the one that its line of the table says.
-use Prim.Native.Nat.{ℕ, _≤_}
+use Prim.Native.Nat.{ℕ}
 use mathlib.Core.Path.{_≡_, refl, sym, _∙_, ap}
 use mathlib.Core.Bool.{Bool, true, false}
 use mathlib.Core.List.{List}
@@ -37,7 +37,7 @@ use Rattle.promises.specs.Responders.{NoResponder}
 use Rattle.promises.specs.Groups.{GroupCommand1, Unconcerned, unfit-to, unfit-command, no-responder}
 use Rattle.promises.specs.Numbers.{When2, When1, When3, When4, When8, When6, not-linked, no-record, When7, not-listed, no-group-command}
 use Rattle.promises.specs.Numbers.{direct, cleanup, broadcast, Sound, IsCarriedOut, Line, two, one, three, four, eight, six, seven, zero}
-use Rattle.promises.specs.Numbers.{Given, fits, five, NumbersGiven, LinesHold, OneLine, ElseCarriedOut}
+use Rattle.promises.specs.Numbers.{Given, fits, five, NumbersGiven, NoOther, LinesHold, OneLine, ElseCarriedOut}
 use Rattle.promises.proofs.Ruled.{commandIn, deedIn, ruled, ruled-linked}
 use Rattle.promises.proofs.Brings.{Comes, as-done, refuses, ends, ends-short}
 use Rattle.promises.proofs.Legal.{Judged, is-listed, is-other, judged, fulfils}
@@ -263,7 +263,8 @@ one-line m l s n k e f x y =
 
 pub lines-hold : LinesHold
 lines-hold m l s room n e x =
-    record { fitting = λ enough. ends m l s room n e enough (comes m l s n e x); short = λ less. ends-short m l s room n e less (comes m l s n e x) }
+    let c = comes m l s n e x in
+    record { due = c .reply; fitting = λ enough. ends m l s room n e enough c; short = λ less. ends-short m l s room n e less c }
 
 pub numbers-given : NumbersGiven
 numbers-given m l s room n = (to, from n)
@@ -286,6 +287,5 @@ numbers-given m l s room n = (to, from n)
     to : numberOf (stepOf m l s room .outcome) ≡ n → Given m l s room n
     to e = rw e at (go (ltb (length room) (length (mine .effect .reply))) refl)
 
--- and no number is given in any other case
-pub no-other : (m : Module) (l s room : List ℕ) (n : ℕ) → Given m l s room n → n ≤ 8
+pub no-other : NoOther
 no-other m l s room n x = rw (numbers-given m l s room n .1 x) at (numbered (stepOf m l s room .outcome))

@@ -12,6 +12,7 @@ use Rattle.links.specs.Record.{recordAt, linkOf}
 use Rattle.results.specs.Number.{numberOf}
 use Rattle.module.specs.declared.state.Module.{Module}
 use Rattle.device.specs.Step.{stepOf}
+use Rattle.promises.specs.Room.{dueTo}
 use Rattle.promises.specs.Demand1.{nakOf}
 use Rattle.promises.specs.Demand3.{Stranger, pingOrId}
 use Rattle.promises.specs.Legal.{Effect, sends, Ends}
@@ -98,8 +99,13 @@ module _ (m : Module) (l s : List ℕ) where
 abbrev pub NumbersGiven : Type 0
 NumbersGiven = (m : Module) (l s room : List ℕ) (n : ℕ) → (numberOf (stepOf m l s room .outcome) ≡ n) ↔ Given m l s room n
 
--- the other columns: where the reply fits, all is as the line says; where not, nothing is sent and nothing altered
+-- and none is given in any other case
+abbrev pub NoOther : Type 0
+NoOther = (m : Module) (l s room : List ℕ) (n : ℕ) → Given m l s room n → n ≤ 8
+
+-- the other columns: the reply due is the line's; where it fits, all is as the line says; where not, nothing is sent or altered
 pub record AsTheLine (m : Module) (l s room : List ℕ) (n : ℕ) (e : Effect) : Type 0 where
+  pub due : dueTo m l s ≡ e .reply
   pub fitting : length (e .reply) ≤ length room → Ends room n e (stepOf m l s room)
   pub short : length room < length (e .reply) → Ends room 5 (sends m l []) (stepOf m l s room)
 

@@ -12,7 +12,7 @@ use Rattle.basis.proofs.Tests.{both, clash}
 use Rattle.wire.specs.declared.command.GroupCommand.{GroupCommand}
 use Rattle.wire.specs.Bytes.{fromOf, toOf, command1Of, command2Of, requestOf, dataOf}
 use Rattle.wire.specs.Commands.{groupCommandOf}
-use Rattle.wire.specs.Kinds.{typeOf, isCleanup, isBroadcast, kindOf}
+use Rattle.wire.specs.Kinds.{isCleanup, isBroadcast}
 use Rattle.wire.specs.Reading.{wellFormed}
 use Rattle.wire.proofs.Commanded.{Commanded, turns-on, turns-off, neither, commanded}
 use Rattle.links.specs.declared.memory.Link.{Link}
@@ -34,7 +34,7 @@ use Rattle.promises.specs.Responders.{Responder, FirstResponder, NoRespo
 use Rattle.promises.specs.Groups.{GroupLegal, dimmer, broadcastEffect, cleanupEffect, ToGroup, GroupCommand1, EachHasRow}
 use Rattle.promises.specs.Groups.{Unconcerned, unfit-to, unfit-command, no-responder}
 use Rattle.promises.specs.Groups.{BroadcastTaken, BroadcastElse, CleanupTaken, CleanupUnlinked, CleanupElse}
-use Rattle.promises.proofs.Ruled.{by-kind}
+use Rattle.promises.proofs.Ruled.{cleanup-ruling, broadcast-ruling}
 use Rattle.promises.proofs.Brings.{Brings, brought, numbered-by}
 use Rattle.promises.proofs.Responders.{found-first, found-none, SomeFirst, first-or-none}
 use Rattle.promises.proofs.GroupsDimmer.{Alters, own-alters, own-grouped, own-unlisted, own-row}
@@ -102,12 +102,12 @@ module _ (m : Module) (l s : List ℕ) (f : isFit l ≡ true) (w : wellFormed s 
   module _ (b : isBroadcast s ≡ true) where
     ruled-call : calls s (groupCommandOf (command1Of s)) ≡ true
         → rulingOf m l s .plan ≡ broadcastPlan m (groupCommandOf (command1Of s)) (searchOf l (Wanted.Responder (fromOf s) (toOf s .low)) .found)
-    unfolding kindOf choose
-    ruled-call e = rw (by-kind m l s f w, eqb-true (typeOf s) 6 b, e)
+    unfolding choose
+    ruled-call e = rw (broadcast-ruling m l s f w b, e)
 
     ruled-no-call : calls s (groupCommandOf (command1Of s)) ≡ false → rulingOf m l s .plan ≡ unconcerned
-    unfolding kindOf choose
-    ruled-no-call e = rw (by-kind m l s f w, eqb-true (typeOf s) 6 b, e)
+    unfolding choose
+    ruled-no-call e = rw (broadcast-ruling m l s f w b, e)
 
     pub ruled-first : calls s (groupCommandOf (command1Of s)) ≡ true → (k : ℕ) → FirstResponder l (fromOf s) (toOf s .low) k
         → rulingOf m l s .plan ≡ broadcastBy (groupDeedOf m (groupCommandOf (command1Of s)) (linkOf (recordAt l k)))
@@ -124,8 +124,7 @@ module _ (m : Module) (l s : List ℕ) (f : isFit l ≡ true) (w : wellFormed s 
 
   module _ (c : isCleanup s ≡ true) where
     ruled-cleanup : rulingOf m l s .plan ≡ cleanupPlan m (requestOf s) (groupCommandOf (command1Of s)) (searchOf l (senderInGroup (requestOf s)) .found)
-    unfolding kindOf choose
-    ruled-cleanup = rw (by-kind m l s f w, eqb-true (typeOf s) 2 c)
+    ruled-cleanup = rw (cleanup-ruling m l s f w c)
 
     pub ruled-responder : (k : ℕ) → FirstResponder l (fromOf s) (command2Of s) k
         → rulingOf m l s .plan ≡ cleanupBy (requestOf s) (groupDeedOf m (groupCommandOf (command1Of s)) (linkOf (recordAt l k)))

@@ -13,8 +13,8 @@ use Rattle.basis.proofs.Tests.{clash}
 use Rattle.wire.specs.Bytes.{fromOf, toOf, command1Of, command2Of, requestOf, dataOf}
 use Rattle.wire.specs.Commands.{groupCommandOf}
 use Rattle.wire.specs.Kinds.{typeOf, isDirect, isCleanup, isBroadcast}
-use Rattle.wire.specs.Reading.{wellFormed, readOf}
-use Rattle.links.specs.Record.{isFit, records, recordAt, linkOf}
+use Rattle.wire.specs.Reading.{readOf}
+use Rattle.links.specs.Record.{records, recordAt, linkOf}
 use Rattle.links.specs.Live.{Linked}
 use Rattle.links.proofs.Linked.{linked-or-not}
 use Rattle.reply.specs.declared.due.ReplyType.{ReplyType}
@@ -46,7 +46,7 @@ use Rattle.promises.proofs.Anybody.{ruled-exempt}
 use Rattle.promises.proofs.Responders.{SomeFirst, first-or-none}
 use Rattle.promises.proofs.Groups.{group-command, alters, unlisted-deed, each-has-row, broadcast-brings, cleanup-brings}
 use Rattle.promises.proofs.Groups.{calls, calling, uncalled, ruled-first, ruled-unconcerned, ruled-responder, ruled-no-responder}
-use Rattle.promises.proofs.Whens.{holds, apart, is-fit, is-whole, is-ours, is-unfit, is-unwhole, is-foreign, well-formed}
+use Rattle.promises.proofs.Whens.{holds, apart, is-fit, is-whole, is-ours, is-unfit, is-unwhole, is-foreign, fit, well-formed}
 use Rattle.promises.proofs.Whens.{Standing, at-2, at-1, at-3, at-4, as-direct, as-cleanup, as-broadcast, standing}
 use Rattle.promises.proofs.Demand1.{numbered}
 
@@ -69,19 +69,13 @@ module _ (m : Module) (l s : List ℕ) where
   ruled-4 a b c h = rw (is-fit m l s a, is-whole m l s b, is-ours m l s c, h)
 
   module _ (h : Sound m l s) where
-    fit : isFit l ≡ true
-    fit = is-fit m l s (h .fit)
-
-    well : wellFormed s (m .identity .address) ≡ true
-    well = well-formed m l s h
-
     -- a direct command to which 6 does not apply is looked at
     looked-at : isDirect s ≡ true → ¬ When6 l s → rulingOf m l s .plan ≡ deedPlan m (requestOf s) (deedIn m l s)
     looked-at d n = go (pingOrId s) refl (linked-or-not l (fromOf s))
       where
         go : (t : Bool) → pingOrId s ≡ t → Linked l (fromOf s) ⊎ Stranger l s → rulingOf m l s .plan ≡ deedPlan m (requestOf s) (deedIn m l s)
-        go true e x = ruled-exempt m l s fit well d e
-        go false e (inl x) = ruled-linked m l s fit well d x
+        go true e x = ruled-exempt m l s (fit m l s h) (well-formed m l s h) d e
+        go false e (inl x) = ruled-linked m l s (fit m l s h) (well-formed m l s h) d x
         go false e (inr x) = absurd (n (not-linked d e x))
 
     -- and one outside the table is not listed
@@ -93,7 +87,9 @@ module _ (m : Module) (l s : List ℕ) where
         go (is-other p) = looked-at d n ∙ ap (deedPlan m (requestOf s)) p
 
     ruled-not-linked : isDirect s ≡ true → pingOrId s ≡ false → Stranger l s → rulingOf m l s .plan ≡ unlinked ReplyType.Nak (requestOf s)
-    ruled-not-linked d p x = ruled m l s fit well d ∙ stranger-plan m l (requestOf s) (dataOf s) (records l) (commandIn s) x (exempt s ∙ p)
+    ruled-not-linked d p x =
+        ruled m l s (fit m l s h) (well-formed m l s h) d
+        ∙ stranger-plan m l (requestOf s) (dataOf s) (records l) (commandIn s) x (exempt s ∙ p)
 
     -- a cleanup to which 6 does not apply has its record
     ruled-no-command : isCleanup s ≡ true → ¬ When6 l s → ¬ GroupCommand1 s → rulingOf m l s .plan ≡ unlisted ReplyType.CleanupNak (requestOf s)
@@ -102,7 +98,7 @@ module _ (m : Module) (l s : List ℕ) where
         go : SomeFirst l (fromOf s) (command2Of s) ⊎ NoResponder l (fromOf s) (command2Of s)
             → rulingOf m l s .plan ≡ unlisted ReplyType.CleanupNak (requestOf s)
         go (inl r) =
-            ruled-responder m l s fit well c (r .place) (r .decides)
+            ruled-responder m l s (fit m l s h) (well-formed m l s h) c (r .place) (r .decides)
             ∙ ap (cleanupBy (requestOf s)) (unlisted-deed m s (linkOf (recordAt l (r .place))) x)
         go (inr nobody) = absurd (n (no-record c nobody))
 
@@ -125,18 +121,21 @@ module _ (m : Module) (l s : List ℕ) where
   comes n e (one a x) = rw (ruled-1 a x) (refuses m l s Outcome.BadLength Due.Nothing)
   comes n e (three a b x) = rw (ruled-3 a b x) (refuses m l s Outcome.Foreign Due.Nothing)
   comes n e (four a b c x) = rw (ruled-4 a b c x) (refuses m l s Outcome.BadSum Due.Nothing)
-  comes n e (eight h x) = rw (ruled-unconcerned m l s (fit h) (well h) (x .0) (x .1)) (refuses m l s Outcome.Unconcerned Due.Nothing)
+  comes n e (eight h x) = rw (ruled-unconcerned m l s (fit m l s h) (well-formed m l s h) (x .0) (x .1)) (refuses m l s Outcome.Unconcerned Due.Nothing)
   comes n e (six h u (not-linked d p x)) = rw (ruled-not-linked h d p x, nak-direct d 0xff) (refuses m l s Outcome.NotLinked _)
-  comes n e (six h u (no-record c x)) = rw (ruled-no-responder m l s (fit h) (well h) c x, nak-cleanup c 0xff) (refuses m l s Outcome.NotLinked _)
+  comes n e (six h u (no-record c x)) =
+      rw (ruled-no-responder m l s (fit m l s h) (well-formed m l s h) c x, nak-cleanup c 0xff) (refuses m l s Outcome.NotLinked _)
   comes n e (seven h u a (not-listed d x)) = rw (ruled-unlisted h d a x, nak-direct d 0xfb) (refuses m l s Outcome.Unlisted _)
   comes n e (seven h u a (no-group-command c x)) = rw (ruled-no-command h c a x, nak-cleanup c 0xfb) (refuses m l s Outcome.Unlisted _)
-  comes n e (zero h u a b _ (direct _ d x)) = rw (looked-at h d a) (as-done m l s e _ (well h) (fulfils m l s (well h) e x))
+  comes n e (zero h u a b _ (direct _ d x)) = rw (looked-at h d a) (as-done m l s e _ (well-formed m l s h) (fulfils m l s (well-formed m l s h) e x))
   comes n e (zero h u a b _ (cleanup k next c r x)) =
-      let link = linkOf (recordAt l k) in
-      rw (ruled-responder m l s (fit h) (well h) c k r) (as-done m l s _ _ (well h) (cleanup-brings m l s next _ (alters m s link next x)))
+      let w = well-formed m l s h in
+      let does = alters m s (linkOf (recordAt l k)) next x in
+      rw (ruled-responder m l s (fit m l s h) w c k r) (as-done m l s _ _ w (cleanup-brings m l s next _ does))
   comes n e (zero h u a b _ (broadcast k next c r x)) =
-      let link = linkOf (recordAt l k) in
-      rw (ruled-first m l s (fit h) (well h) c (is-call h c u) k r) (as-done m l s _ _ (well h) (broadcast-brings m l s next _ (alters m s link next x)))
+      let w = well-formed m l s h in
+      let does = alters m s (linkOf (recordAt l k)) next x in
+      rw (ruled-first m l s (fit m l s h) w c (is-call h c u) k r) (as-done m l s _ _ w (broadcast-brings m l s next _ does))
 
   -- every message has its line
   pub record HasLine : Type 0 where
@@ -157,7 +156,7 @@ module _ (m : Module) (l s : List ℕ) where
 
           -- what comes to a deed that is not listed is no row
           no-row : deedIn m l s ≡ Deed.Unlisted → (e : Effect) → ¬ Legal m l s e
-          no-row p e x = let z : _≡_ {A = ℕ} 7 0 = rw p at (fulfils m l s (well h) e x .done) in omega arith
+          no-row p e x = let z : _≡_ {A = ℕ} 7 0 = rw p at (fulfils m l s (well-formed m l s h) e x .done) in omega arith
 
           go : Judged m l s (deedIn m l s) → HasLine
           go (is-listed e x) = on (zero h no-8 n no-7 e (direct e d x))

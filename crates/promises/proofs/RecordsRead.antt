@@ -3,16 +3,15 @@ use Prim.Native.Nat.{ℕ}
 use mathlib.Core.Path.{_≡_, refl, sym, _∙_}
 use mathlib.Core.Bool.{Bool, true, false}
 use mathlib.Core.List.{List}
-use borrow.Author.Tests.{eqb-true}
 use Rattle.basis.specs.Choice.{choose}
 use Rattle.basis.proofs.Tests.{clash}
 use Rattle.basis.proofs.First.{one-first}
 use Rattle.wire.specs.Bytes.{fromOf, toOf, command1Of, command2Of}
 use Rattle.wire.specs.Commands.{groupCommandOf}
-use Rattle.wire.specs.Kinds.{typeOf, isDirect, isCleanup, isBroadcast, kindOf}
+use Rattle.wire.specs.Kinds.{isDirect, isCleanup, isBroadcast}
 use Rattle.links.specs.declared.search.Wanted.{Wanted}
 use Rattle.links.specs.declared.search.Searched.{Searched}
-use Rattle.links.specs.Record.{isFit, recordAt, isEndMark}
+use Rattle.links.specs.Record.{recordAt, isEndMark}
 use Rattle.links.specs.Live.{FirstUnused}
 use Rattle.links.specs.Search.{isSought, searchOf}
 use Rattle.links.specs.Settled.{LiveMatch, Settled, matched, ended, exhausted}
@@ -24,11 +23,11 @@ use Rattle.promises.specs.Groups.{ToGroup, GroupCommand1}
 use Rattle.promises.specs.Numbers.{Sound}
 use Rattle.promises.specs.RecordsRead.{Sought, of-sender, of-cleanup, of-broadcast, Reads, none, matching, end-mark, all, RecordsRead}
 use Rattle.promises.specs.RecordsRead.{NoSearch, ping-or-id, result-1, result-2, result-3, result-4, unfit-to, unfit-command}
-use Rattle.promises.proofs.Ruled.{by-kind, read-by, unread}
+use Rattle.promises.proofs.Ruled.{direct-ruling, cleanup-ruling, broadcast-ruling, read-by, unread}
 use Rattle.promises.proofs.Stranger.{exempt}
 use Rattle.promises.proofs.Responders.{as-match, as-responder}
 use Rattle.promises.proofs.Groups.{calls, calling, uncalled}
-use Rattle.promises.proofs.Whens.{apart, is-fit, well-formed, Standing, at-2, at-1, at-3, at-4, as-direct, as-cleanup, as-broadcast, standing}
+use Rattle.promises.proofs.Whens.{apart, fit, well-formed, Standing, at-2, at-1, at-3, at-4, as-direct, as-cleanup, as-broadcast, standing}
 use Rattle.promises.proofs.Numbers.{ruled-2, ruled-1, ruled-3, ruled-4}
 
 -- one count
@@ -66,9 +65,6 @@ module _ (m : Module) (l s : List ℕ) where
       go f (exhausted x no-match) = all n x (λ j y. no-match j (from j y))
 
   module _ (h : Sound m l s) where
-    sound-fit : isFit l ≡ true
-    sound-fit = is-fit m l s (h .fit)
-
     -- by its type, where none of 1 to 4 applies
     searched : ¬ ((isDirect s ≡ true) × (pingOrId s ≡ true)) → (isBroadcast s ≡ true → ToGroup s × GroupCommand1 s) → ¬ NoSearch m l s
     searched p q (ping-or-id d e) = p (d, e)
@@ -81,11 +77,11 @@ module _ (m : Module) (l s : List ℕ) where
 
     module _ (d : isDirect s ≡ true) where
       direct-read : pingOrId s ≡ false → rulingOf m l s .read ≡ searchOf l (Wanted.Sender (fromOf s)) .read
-      unfolding kindOf choose
-      direct-read e = rw (by-kind m l s sound-fit (well-formed m l s h), d, exempt s, e)
+      unfolding choose
+      direct-read e = rw (direct-ruling m l s (fit m l s h) (well-formed m l s h) d, exempt s, e)
 
       direct-reads : (t : Bool) → pingOrId s ≡ t → Reads m l s (rulingOf m l s .read)
-      direct-reads true e = rw (unread m l s sound-fit (well-formed m l s h) d (exempt s ∙ e)) (none (ping-or-id d e))
+      direct-reads true e = rw (unread m l s (fit m l s h) (well-formed m l s h) d (exempt s ∙ e)) (none (ping-or-id d e))
       direct-reads false e = rw (direct-read e) (by-search (Wanted.Sender (fromOf s)) refl to from (searched (λ x. clash (x .1) e) (λ b. apart s 0 6 refl d b)))
         where
           to : (k : ℕ) → LiveMatch l (Wanted.Sender (fromOf s)) k → Sought l s k
@@ -98,8 +94,7 @@ module _ (m : Module) (l s : List ℕ) where
 
     module _ (c : isCleanup s ≡ true) where
       cleanup-read : rulingOf m l s .read ≡ searchOf l (Wanted.Responder (fromOf s) (command2Of s)) .read
-      unfolding kindOf choose
-      cleanup-read = rw (by-kind m l s sound-fit (well-formed m l s h), eqb-true (typeOf s) 2 c)
+      cleanup-read = rw (cleanup-ruling m l s (fit m l s h) (well-formed m l s h) c)
 
       cleanup-reads : Reads m l s (rulingOf m l s .read)
       cleanup-reads =
@@ -116,12 +111,12 @@ module _ (m : Module) (l s : List ℕ) where
 
     module _ (b : isBroadcast s ≡ true) where
       call-read : calls s (groupCommandOf (command1Of s)) ≡ true → rulingOf m l s .read ≡ searchOf l (Wanted.Responder (fromOf s) (toOf s .low)) .read
-      unfolding kindOf choose
-      call-read e = rw (by-kind m l s sound-fit (well-formed m l s h), eqb-true (typeOf s) 6 b, e)
+      unfolding choose
+      call-read e = rw (broadcast-ruling m l s (fit m l s h) (well-formed m l s h) b, e)
 
       no-call-read : calls s (groupCommandOf (command1Of s)) ≡ false → rulingOf m l s .read ≡ 0
-      unfolding kindOf choose
-      no-call-read e = rw (by-kind m l s sound-fit (well-formed m l s h), eqb-true (typeOf s) 6 b, e)
+      unfolding choose
+      no-call-read e = rw (broadcast-ruling m l s (fit m l s h) (well-formed m l s h) b, e)
 
       broadcast-reads : (t : Bool) → calls s (groupCommandOf (command1Of s)) ≡ t → Reads m l s (rulingOf m l s .read)
       broadcast-reads true e =

@@ -49,8 +49,8 @@ module _ (l : List ℕ) where
       go true true false p q r e = no-multiple (eqb-false (length l % 8) 0 r)
       go true true true p q r e = clash refl e
 
-  fit : isFit l ≡ true → ¬ When2 l
-  fit h = go (leb-true 1 (length l) (ends .0)) (leb-true (length l) 2048 (ends .1)) (eqb-true (length l % 8) 0 (parts .1))
+  not-2 : isFit l ≡ true → ¬ When2 l
+  not-2 h = go (leb-true 1 (length l) (ends .0)) (leb-true (length l) 2048 (ends .1)) (eqb-true (length l % 8) 0 (parts .1))
     where
       parts : (within 1 2048 (length l) ≡ true) × (eqb (length l % 8) 0 ≡ true)
       parts = both (within 1 2048 (length l)) _ h
@@ -75,10 +75,10 @@ module _ (s : List ℕ) where
       go false x a b true c n = long-but-clear (eqb-true (length s) 23 c) x
       go false x a b false c n = other-length n (eqb-false (length s) 23 c)
 
-  whole : isWhole s ≡ true → ¬ When1 s
-  whole h (other-length a b) = a (nine s h b)
-  whole h (short-but-set e x) = clash x (by-length s h ∙ rw e)
-  whole h (long-but-clear e x) = clash (by-length s h ∙ rw e) x
+  not-1 : isWhole s ≡ true → ¬ When1 s
+  not-1 h (other-length a b) = a (nine s h b)
+  not-1 h (short-but-set e x) = clash x (by-length s h ∙ rw e)
+  not-1 h (long-but-clear e x) = clash (by-length s h ∙ rw e) x
 
 -- 3
 module _ (m : Module) (s : List ℕ) where
@@ -103,8 +103,8 @@ module _ (m : Module) (s : List ℕ) where
       go (inl e) = unheard (one-of (not (isDirect s || isCleanup s || isBroadcast s)) _ e)
       go (inr e) = let p = both (isDirect s || isCleanup s) (not ourselves) e in astray (one-of (isDirect s) (isCleanup s) (p .0)) (not-true ourselves (p .1))
 
-  ours : isForeign s (m .identity .address) ≡ false → ¬ When3 m s
-  ours h = go (unheard .0) (unheard .1) (parts .1)
+  not-3 : isForeign s (m .identity .address) ≡ false → ¬ When3 m s
+  not-3 h = go (unheard .0) (unheard .1) (parts .1)
     where
       parts : (isUnheard s ≡ false) × (isAstray s (m .identity .address) ≡ false)
       parts = neither (isUnheard s) _ h
@@ -131,13 +131,16 @@ module _ (m : Module) (l s : List ℕ) where
   is-ours h = fails (isForeign s (m .identity .address)) (foreign m s) h
 
   pub is-unfit : When2 l → isFit l ≡ false
-  is-unfit h = fails (isFit l) (fit l) (λ n. n h)
+  is-unfit h = fails (isFit l) (not-2 l) (λ n. n h)
 
   pub is-unwhole : When1 s → isWhole s ≡ false
-  is-unwhole h = fails (isWhole s) (whole s) (λ n. n h)
+  is-unwhole h = fails (isWhole s) (not-1 s) (λ n. n h)
 
   pub is-foreign : When3 m s → isForeign s (m .identity .address) ≡ true
-  is-foreign h = holds (isForeign s (m .identity .address)) (ours m s) (λ n. n h)
+  is-foreign h = holds (isForeign s (m .identity .address)) (not-3 m s) (λ n. n h)
+
+  pub fit : Sound m l s → isFit l ≡ true
+  fit h = is-fit (h .fit)
 
   pub well-formed : Sound m l s → wellFormed s (m .identity .address) ≡ true
   well-formed h = rw (is-whole (h .whole), is-ours (h .ours), fails {W = When4 s} (isSumWrong s) (λ e. e) (h .right))
@@ -167,7 +170,7 @@ module _ (m : Module) (l s : List ℕ) where
       go : (a : Bool) → isFit l ≡ a → (b : Bool) → isWhole s ≡ b → (c : Bool) → isForeign s (m .identity .address) ≡ c
           → (d : Bool) → isSumWrong s ≡ d → Standing
       go false f b w c o d r = at-2 (unfit l f)
-      go true f false w c o d r = at-1 (fit l f) (unwhole s w)
-      go true f true w true o d r = at-3 (fit l f) (whole s w) (foreign m s o)
-      go true f true w false o true r = at-4 (fit l f) (whole s w) (ours m s o) r
-      go true f true w false o false r = by-type (record { fit = fit l f; whole = whole s w; ours = ours m s o; right = λ e. clash e r })
+      go true f false w c o d r = at-1 (not-2 l f) (unwhole s w)
+      go true f true w true o d r = at-3 (not-2 l f) (not-1 s w) (foreign m s o)
+      go true f true w false o true r = at-4 (not-2 l f) (not-1 s w) (not-3 m s o) r
+      go true f true w false o false r = by-type (record { fit = not-2 l f; whole = not-1 s w; ours = not-3 m s o; right = λ e. clash e r })

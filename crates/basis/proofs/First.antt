@@ -17,6 +17,10 @@ not-less i m h = go (leb i m) refl
     go true q = leb-true i m q
     go false q = absurd (h (leb-false i m q))
 
+-- of anything that can be said of positions there is one first
+pub one-first : (P : ℕ → Type 0) (j k : ℕ) → P j → ((i : ℕ) → i < j → P i → ⊥) → P k → ((i : ℕ) → i < k → P i → ⊥) → j ≡ k
+one-first P j k p before q sooner = le-antisymm (not-less j k (λ h. before k h q)) (not-less k j (λ h. sooner j h p))
+
 module _ (P : ℕ → Bool) where
   -- none is left; it is here; it is further on
   pub none : (k : ℕ) → firstFrom P 0 k ≡ k

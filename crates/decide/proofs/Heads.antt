@@ -7,10 +7,10 @@ use Rattle.basis.proofs.Choice.{either}
 use Rattle.wire.specs.declared.request.Request.{Request}
 use Rattle.wire.specs.declared.kind.MessageKind.{MessageKind}
 use Rattle.wire.specs.declared.kind.Reading.{Reading}
-use Rattle.links.specs.declared.memory.Link.{Link}
 use Rattle.links.specs.declared.search.Found.{Found}
 use Rattle.links.specs.Record.{isFit, records}
-use Rattle.links.specs.Search.{isFound, ifFound, searchOf}
+use Rattle.links.specs.Search.{isFound, searchOf}
+use Rattle.links.proofs.Following.{by-found}
 use Rattle.reply.proofs.Messages.{Begins}
 use Rattle.module.specs.declared.state.Module.{Module}
 use Rattle.module.specs.declared.deed.Ack.{Ack}
@@ -26,12 +26,6 @@ use Rattle.decide.specs.Ruling.{heardBy, readRuling, rulingBy, rulingOf}
 
 abbrev Begun : Plan → Type 0
 Begun p = Begins (p .due)
-
-found-begins : (found : Found) (then : Link → Plan) (none : Plan) → ((link : Link) → Begun (then link)) → Begun none → Begun (ifFound found then none)
-found-begins Found.NoSearch then none f g = g
-found-begins (Found.Match link) then none f g = f link
-found-begins Found.EndMark then none f g = g
-found-begins Found.MemoryEnd then none f g = g
 
 module _ (m : Module) (r : Request) where
   ack-begins : (ack : Ack) → Begins (dueOf m r ack)
@@ -59,8 +53,8 @@ module _ (m : Module) (l : List ℕ) where
   plan-begins : (kind : MessageKind) (d : List ℕ) (n : ℕ) (found : Found) → Begun (planOf m kind d n found)
   unfolding directPlan
   plan-begins (MessageKind.Direct r command) d n found = either Begun (needsNoLink command || isFound found) (deed-begins m r (deedOf m r d n command)) refl
-  plan-begins (MessageKind.Cleanup r command) d n found = found-begins found _ _ (λ link. cleanup-begins r (groupDeedOf m command link)) refl
-  plan-begins (MessageKind.Broadcast from to command) d n found = found-begins found _ _ (λ link. broadcast-begins (groupDeedOf m command link)) tt
+  plan-begins (MessageKind.Cleanup r command) d n found = by-found Begun found _ _ (λ link. cleanup-begins r (groupDeedOf m command link)) refl
+  plan-begins (MessageKind.Broadcast from to command) d n found = by-found Begun found _ _ (λ link. broadcast-begins (groupDeedOf m command link)) tt
   plan-begins MessageKind.Foreign d n found = tt
 
   read-begins : (d : List ℕ) (reading : Reading) → Begun (readRuling m l d reading .plan)

@@ -5,3 +5,4 @@ pub mod Settled
 pub mod Linked
 pub mod Named
 pub mod Written
+pub mod Following

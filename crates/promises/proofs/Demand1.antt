@@ -18,10 +18,10 @@ use Rattle.wire.specs.Commands.{groupCommandOf}
 use Rattle.wire.specs.Kinds.{typeOf, isDirect, isCleanup, isForeign, kindOf}
 use Rattle.wire.specs.Checksum.{isSumWrong}
 use Rattle.wire.specs.Reading.{readOf}
-use Rattle.links.specs.declared.memory.Link.{Link}
 use Rattle.links.specs.declared.search.Found.{Found}
 use Rattle.links.specs.Record.{isFit, records}
-use Rattle.links.specs.Search.{searchOf, ifFound}
+use Rattle.links.specs.Search.{searchOf}
+use Rattle.links.proofs.Following.{by-found}
 use Rattle.reply.specs.declared.due.ReplyType.{ReplyType}
 use Rattle.reply.specs.declared.due.Due.{Due}
 use Rattle.reply.specs.Reply.{replyOf}
@@ -60,13 +60,6 @@ broadcast-fair : (type : ReplyType) (r : Request) (deed : GroupDeed) → Fair ty
 broadcast-fair type r (GroupDeed.Done change) = done refl
 broadcast-fair type r GroupDeed.Unlisted = mute Outcome.Unconcerned refl refl
 
--- by what the search found
-found-fair : (type : ReplyType) (r : Request) (found : Found) (then : Link → Plan) (none : Plan) → ((link : Link) → Fair type r (then link)) → Fair type r none → Fair type r (ifFound found then none)
-found-fair type r Found.NoSearch then none f g = g
-found-fair type r (Found.Match link) then none f g = f link
-found-fair type r Found.EndMark then none f g = g
-found-fair type r Found.MemoryEnd then none f g = g
-
 -- the NAK's type by the message's
 module _ {r : Request} {p : Plan} (s : List ℕ) where
   as-direct : isCleanup s ≡ false → Fair ReplyType.Nak r p → Fair (choose (isCleanup s) ReplyType.CleanupNak ReplyType.Nak) r p
@@ -88,11 +81,17 @@ module _ (m : Module) (l s : List ℕ) where
       by P (isDirect s)
       (λ e. as-direct s (not-cleanup e) (either (Fair ReplyType.Nak (requestOf s)) _ (deed-fair m (requestOf s) (deedOf m (requestOf s) d (records l) (commandIn s))) (stranger refl)))
       (λ e. by P (isCleanup s)
-      (λ f. as-cleanup s f (found-fair _ _ (searchOf l (wantedOf (MessageKind.Cleanup (requestOf s) command)) .found) _ _ (λ link. cleanup-fair (requestOf s) (groupDeedOf m command link)) (stranger refl)))
-      (λ f. found-fair _ _ (searchOf l (wantedOf (MessageKind.Broadcast (fromOf s) (toOf s) command)) .found) _ _ (λ link. broadcast-fair _ _ (groupDeedOf m command link)) (mute Outcome.Unconcerned refl refl)))
+      (λ f. as-cleanup s f (by-found (Fair _ _) (found (MessageKind.Cleanup (requestOf s) command)) _ _ (λ link. cleanup-fair (requestOf s) (groupDeedOf m command link)) (stranger refl)))
+      (λ f. by-found (Fair _ _) (found (MessageKind.Broadcast (fromOf s) (toOf s) command)) _ _ (λ link. broadcast-fair _ _ (groupDeedOf m command link)) unconcerned))
     where
       command : GroupCommand
       command = groupCommandOf (command1Of s)
+
+      found : MessageKind → Found
+      found kind = searchOf l (wantedOf kind) .found
+
+      unconcerned : {type : ReplyType} {r : Request} → Fair type r (refused Outcome.Unconcerned Due.Nothing)
+      unconcerned = mute Outcome.Unconcerned refl refl
 
       P : MessageKind → Type 0
       P kind = Just (kindRuling m l d kind)

@@ -48,7 +48,10 @@ module _ (m : Module) (lamp : Lamp) (l s : List ℕ) where
   own-brings common e (off-at-ramp x) = rw (short-command s 0x2f x) (record { done = refl; next = refl; links = refl; reply = refl })
   own-brings common e (percent x y) = rw (short-command s 0x39 x, le-leb (command2Of s) 0x64 y) (record { done = refl; next = refl; links = refl; reply = refl })
   own-brings common e (get-properties x) = rw (long-command s 0x2e (x .0), x .1, x .2) (record { done = refl; next = refl; links = refl; reply = refl })
-  own-brings common e (set-ramp x y) = rw (long-command s 0x2e (x .0), x .1, x .2, le-leb 0x00 (dataAt s 3) (omega arith), le-leb (dataAt s 3) 0x1f (omega (arith, y))) (record { done = refl; next = refl; links = refl; reply = refl })
+  own-brings common e (set-ramp x y) =
+      let least = le-leb 0x00 (dataAt s 3) (omega arith) in
+      let most = le-leb (dataAt s 3) 0x1f (omega (arith, y)) in
+      rw (long-command s 0x2e (x .0), x .1, x .2, least, most) (record { done = refl; next = refl; links = refl; reply = refl })
   own-brings common e (set-on-level x) = rw (long-command s 0x2e (x .0), x .1, x .2) (record { done = refl; next = refl; links = refl; reply = refl })
 
   -- the rows of all kinds are left as they are
@@ -121,7 +124,8 @@ module _ (m : Module) (lamp : Lamp) (l s : List ℕ) where
       unfolding propertyEntry
       property-judged z =
           by OwnJudged _ (λ e. own-listed _ (get-properties ((x, y), z, eqb-true _ 0x00 e)))
-          (λ _. by OwnJudged _ (λ e. by-limits (λ (deed : Deed). OwnJudged (Entry.Own deed)) 0x00 0x1f (dataAt s 3) _ (λ a b. own-listed _ (set-ramp ((x, y), z, eqb-true _ 0x05 e) (omega (arith, b)))) (own-other refl))
+          (λ _. by OwnJudged _ (λ e. by-limits (λ (deed : Deed). OwnJudged (Entry.Own deed)) 0x00 0x1f (dataAt s 3) _
+          (λ a b. own-listed _ (set-ramp ((x, y), z, eqb-true _ 0x05 e) (omega (arith, b)))) (own-other refl))
           (λ _. by OwnJudged _ (λ e. own-listed _ (set-on-level ((x, y), z, eqb-true _ 0x06 e)))
           (λ _. left refl)))
 

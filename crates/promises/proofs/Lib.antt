@@ -8,6 +8,13 @@ pub mod Legal
 pub mod Demand1
 pub mod Demand2
 pub mod Stranger
+pub mod Anybody
+pub mod Responders
+pub mod GroupsDimmer
+pub mod Groups
+pub mod Whens
+pub mod Numbers
+pub mod RecordsRead
 pub mod Room
 pub mod Demand3
 pub mod Lent

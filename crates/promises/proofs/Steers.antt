@@ -26,7 +26,8 @@ use Rattle.wire.specs.Reading.{readOf}
 use Rattle.links.specs.declared.memory.Link.{Link}
 use Rattle.links.specs.declared.search.Found.{Found}
 use Rattle.links.specs.Record.{isFit, records}
-use Rattle.links.specs.Search.{searchOf, isFound, ifFound}
+use Rattle.links.specs.Search.{searchOf, isFound}
+use Rattle.links.proofs.Following.{beside-found}
 use Rattle.reply.specs.declared.due.ReplyType.{ReplyType}
 use Rattle.reply.specs.declared.due.Due.{Due}
 use Rattle.reply.specs.Reply.{replyOf}
@@ -38,12 +39,12 @@ use Rattle.module.specs.declared.deed.Ack.{Ack}
 use Rattle.module.specs.declared.deed.Deed.{Deed}
 use Rattle.module.specs.declared.deed.Entry.{Entry}
 use Rattle.module.specs.declared.plan.Plan.{Plan}
-use Rattle.module.specs.Change.{apply}
+use Rattle.module.specs.Change.{withLoad, apply}
 use Rattle.module.specs.Deed.{acked, telling, limited, settledBy}
 use Rattle.module.specs.Plan.{refused, unlinked, deedPlan}
 use Rattle.shared.specs.Standard.{flagsTold}
 use Rattle.shared.specs.Extended.{shownDeed, propertiesDeed, databaseDeed}
-use Rattle.dimmer.specs.Lamp.{withRamp, withOnLevel}
+use Rattle.dimmer.specs.Lamp.{withLevel, withRamp, withOnLevel}
 use Rattle.dimmer.specs.Load.{atLevel, loadDeed, statusDeed, percentDeed}
 use Rattle.dimmer.specs.Properties.{propertyEntry, propertiesEntry}
 use Rattle.decide.specs.declared.rule.Ruling.{Ruling}
@@ -77,6 +78,10 @@ module _ (m : Module) (flags led ramp level : ℕ) (l d : List ℕ) where
   changed (Change.Load x) = record { flags = flags; led = led; ramp = x .ramp; on-level = x .«on_level»; rest = refl }
   changed (Change.Record k count) = record { flags = flags; led = led; ramp = ramp; on-level = level; rest = refl }
 
+  -- and one level
+  lit : (x : ℕ) → Besides (withLoad (withLevel x (m .load)) m) (withLoad (withLevel x (n .load)) n)
+  lit x = record { flags = flags; led = led; ramp = ramp; on-level = level; rest = refl }
+
   module _ (r : Request) where
     acked-alike : (change : Change) (ack : Ack) → Same (deedPlan m r (Deed.Done change ack)) (deedPlan n r (Deed.Done change ack))
     acked-alike change Ack.Repeated = record { number = refl; next = changed change; links = refl; due = refl }
@@ -96,7 +101,7 @@ module _ (m : Module) (flags led ramp level : ℕ) (l d : List ℕ) where
 
     -- a level, a byte told, and flags of each its own
     to-level : (x : ℕ) → Alike (atLevel (m .load) x) (atLevel (n .load) x)
-    to-level x = record { number = refl; next = record { flags = flags; led = led; ramp = ramp; on-level = level; rest = refl }; links = refl; due = refl }
+    to-level x = record { number = refl; next = lit x; links = refl; due = refl }
 
     tells : (x y : ℕ) → Alike (telling x) (telling y)
     tells x y = record { number = refl; next = changed Change.Nothing; links = refl; due = refl }
@@ -167,8 +172,8 @@ module _ (m : Module) (flags led ramp level : ℕ) (l d : List ℕ) where
         refused-alike = record { number = refl; next = changed Change.Nothing; links = refl; due = refl }
 
     cleaned-alike : (command : GroupCommand) (link : Link) → Same (cleanupBy r (groupDeedOf m command link)) (cleanupBy r (groupDeedOf n command link))
-    cleaned-alike GroupCommand.On link = record { number = refl; next = record { flags = flags; led = led; ramp = ramp; on-level = level; rest = refl }; links = refl; due = refl }
-    cleaned-alike GroupCommand.Off link = record { number = refl; next = record { flags = flags; led = led; ramp = ramp; on-level = level; rest = refl }; links = refl; due = refl }
+    cleaned-alike GroupCommand.On link = record { number = refl; next = lit (link .d1); links = refl; due = refl }
+    cleaned-alike GroupCommand.Off link = record { number = refl; next = lit 0x00; links = refl; due = refl }
     cleaned-alike GroupCommand.Unlisted link = record { number = refl; next = changed Change.Nothing; links = refl; due = refl }
 
   -- a refusal of both
@@ -176,20 +181,14 @@ module _ (m : Module) (flags led ramp level : ℕ) (l d : List ℕ) where
   none o due = record { number = refl; next = changed Change.Nothing; links = refl; due = refl }
 
   called-alike : (command : GroupCommand) (link : Link) → Same (broadcastBy (groupDeedOf m command link)) (broadcastBy (groupDeedOf n command link))
-  called-alike GroupCommand.On link = record { number = refl; next = record { flags = flags; led = led; ramp = ramp; on-level = level; rest = refl }; links = refl; due = refl }
-  called-alike GroupCommand.Off link = record { number = refl; next = record { flags = flags; led = led; ramp = ramp; on-level = level; rest = refl }; links = refl; due = refl }
+  called-alike GroupCommand.On link = record { number = refl; next = lit (link .d1); links = refl; due = refl }
+  called-alike GroupCommand.Off link = record { number = refl; next = lit 0x00; links = refl; due = refl }
   called-alike GroupCommand.Unlisted link = none Outcome.Unconcerned Due.Nothing
-
-  found-alike : (found : Found) (f g : Link → Plan) (p : Plan) → ((link : Link) → Same (f link) (g link)) → Same p p → Same (ifFound found f p) (ifFound found g p)
-  found-alike Found.NoSearch f g p h k = k
-  found-alike (Found.Match link) f g p h k = h link
-  found-alike Found.EndMark f g p h k = k
-  found-alike Found.MemoryEnd f g p h k = k
 
   plan-alike : (kind : MessageKind) (found : Found) → Same (planOf m kind d (records l) found) (planOf n kind d (records l) found)
   plan-alike (MessageKind.Direct r command) found = direct-alike r command found
-  plan-alike (MessageKind.Cleanup r command) found = found-alike found _ _ _ (cleaned-alike r command) (none Outcome.NotLinked _)
-  plan-alike (MessageKind.Broadcast from to command) found = found-alike found _ _ _ (called-alike command) (none Outcome.Unconcerned Due.Nothing)
+  plan-alike (MessageKind.Cleanup r command) found = beside-found Same found _ _ _ _ (cleaned-alike r command) (none Outcome.NotLinked _)
+  plan-alike (MessageKind.Broadcast from to command) found = beside-found Same found _ _ _ _ (called-alike command) (none Outcome.Unconcerned Due.Nothing)
   plan-alike MessageKind.Foreign found = none Outcome.Foreign Due.Nothing
 
   record Ruled (p q : Ruling) : Type 0 where

@@ -53,7 +53,7 @@ module _ (m : Module) (s : List ℕ) where
   repeated = ack (command1Of s) (command2Of s)
 
   -- category, subcategory and firmware stand in the place of an address
-  abbrev idBroadcast : List ℕ
+  abbrev pub idBroadcast : List ℕ
   idBroadcast =
       standard (m .identity .address) (record { high = m .identity .category; middle = m .identity .subcategory; low = m .identity .firmware })
       ReplyType.IdBroadcast 0x01 (m .identity .revision)
@@ -113,10 +113,14 @@ pub record FromLinked (m : Module) (l s : List ℕ) : Type 0 where
   pub is-direct : isDirect s ≡ true
   pub linked : Linked l (fromOf s)
 
--- the effect was taken: result 0, and all that it says
-pub record Taken (room : List ℕ) (e : Effect) (t : Step) : Type 0 where
-  pub result : numberOf (t .outcome) ≡ 0
+-- a step ends with result n and this effect, and the room holds the reply and its old rest
+pub record Ends (room : List ℕ) (n : ℕ) (e : Effect) (t : Step) : Type 0 where
+  pub result : numberOf (t .outcome) ≡ n
   pub next : t .next ≡ e .next
   pub links : t .links ≡ e .links
   pub reply : t .reply ≡ e .reply
   pub room-after : t .room ≡ laid (e .reply) room
+
+-- the effect was taken: result 0, and all that it says
+abbrev pub Taken : List ℕ → Effect → Step → Type 0
+Taken room e t = Ends room 0 e t

@@ -11,6 +11,12 @@ pub mod OneAnswer
 pub mod Legal
 pub mod LegalDimmer
 pub mod LegalAny
+pub mod Anybody
+pub mod Responders
+pub mod GroupsDimmer
+pub mod Groups
+pub mod Numbers
+pub mod RecordsRead
 pub mod Room
 pub mod Lent
 pub mod Flags

@@ -1,4 +1,4 @@
--- What a well-formed direct message is heard as.
+-- What a well-formed message is heard as.
 use Prim.Native.Nat.{ℕ}
 use mathlib.Core.Path.{_≡_}
 use mathlib.Core.Bool.{true, false, not, _&&_}
@@ -7,10 +7,9 @@ use borrow.Author.Tests.{not-true}
 use Rattle.basis.specs.Choice.{choose}
 use Rattle.basis.proofs.Tests.{both}
 use Rattle.wire.specs.declared.address.Address.{Address}
-use Rattle.wire.specs.declared.kind.MessageKind.{MessageKind}
 use Rattle.wire.specs.declared.kind.Reading.{Reading}
-use Rattle.wire.specs.Bytes.{command1Of, requestOf, dataOf, isExtended, isWhole}
-use Rattle.wire.specs.Kinds.{isDirect, isForeign, commandOf, kindOf}
+use Rattle.wire.specs.Bytes.{dataOf, isWhole}
+use Rattle.wire.specs.Kinds.{isForeign, kindOf}
 use Rattle.wire.specs.Checksum.{isSumWrong}
 use Rattle.wire.specs.Reading.{wellFormed, readOf}
 
@@ -21,6 +20,7 @@ module _ (s : List ℕ) (own : Address) (w : wellFormed s own ≡ true) where
       let b = both (isWhole s) (not (isForeign s own)) (a .0) in
       (b .0, not-true _ (b .1), not-true _ (a .1))
 
-  pub heard : isDirect s ≡ true → readOf s own ≡ record { reading = Reading.Heard (MessageKind.Direct (requestOf s) (commandOf (isExtended s) (command1Of s))); «data» = dataOf s }
-  unfolding readOf kindOf choose
-  heard d = rw (parts .0, parts .1, parts .2, d)
+  -- its kind, with its data bytes beside it
+  pub heard : readOf s own ≡ record { reading = Reading.Heard (kindOf s); «data» = dataOf s }
+  unfolding readOf choose
+  heard = rw (parts .0, parts .1, parts .2)

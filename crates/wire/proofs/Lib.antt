@@ -3,3 +3,4 @@ pub mod Whole
 pub mod Complement
 pub mod Heard
 pub mod Numbered
+pub mod Commanded

@@ -23,3 +23,4 @@ pub mod Flags
 pub mod Steers
 pub mod Longest
 pub mod Program
+pub mod Lasting

@@ -22,3 +22,4 @@ pub mod Lent
 pub mod Flags
 pub mod Steers
 pub mod Program
+pub mod Lasting

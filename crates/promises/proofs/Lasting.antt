@@ -1,0 +1,20 @@
+-- What lasts is shown where it stands: by device, embed and links.
+use Rattle.links.proofs.Written.{length-written, others, itself, linked-after}
+use Rattle.device.proofs.Lasting as device
+use Rattle.embed.proofs.Served as embed
+use Rattle.promises.specs.Lasting.{SameIdentity, WholeModule, WritesLeave}
+
+pub same-identity : SameIdentity
+same-identity = device.same-identity
+
+pub whole-module : WholeModule
+whole-module = embed.whole-module
+
+pub writes-leave : WritesLeave
+writes-leave l k bytes few there =
+    record {
+      length-stays = length-written l k bytes few there;
+      others-stay = others l k bytes few there;
+      rest-stays = itself l k bytes few there;
+      linked-then = linked-after l k bytes few there;
+    }

@@ -1,0 +1,36 @@
+-- What lasts: who the module is, what an image holds, and what a write leaves ("The module we simulate", "Link memory").
+use Prim.Native.Nat.{ℕ, _+_, _≤_}
+use mathlib.Core.Path.{_≡_}
+use mathlib.Core.List.{List}
+use mathlib.Core.Logic.{_↔_}
+use lib.ListN.{length}
+use Rattle.basis.specs.Laid.{laid}
+use Rattle.wire.specs.declared.address.Address.{Address}
+use Rattle.links.specs.Record.{records, startOf, recordAt}
+use Rattle.links.specs.Live.{LinkedOf, Linked}
+use Rattle.links.specs.Write.{written, afterWrite}
+use Rattle.module.specs.declared.state.Module.{Module}
+use Rattle.device.specs.Step.{stepOf}
+use Rattle.embed.specs.Image.{moduleOf, imageOf}
+
+-- no message alters who the module is: address, category, subcategory, firmware and revision stay
+abbrev pub SameIdentity : Type 0
+SameIdentity = (m : Module) (l s room : List ℕ) → stepOf m l s room .next .identity ≡ m .identity
+
+-- an image holds the whole module: what one call leaves is what the next one finds
+abbrev pub WholeModule : Type 0
+WholeModule = (m : Module) → moduleOf (imageOf m) ≡ m
+
+-- eight bytes or fewer, over the first bytes of a record that is there
+pub record WriteLeaves (l : List ℕ) (k : ℕ) (bytes : List ℕ) : Type 0 where
+  -- the memory is as long as it was
+  pub length-stays : length (written l k bytes) ≡ length l
+  -- every other record stays
+  pub others-stay : (i : ℕ) → ¬ (i ≡ k) → recordAt (written l k bytes) i ≡ recordAt l i
+  -- and so does the rest of this one
+  pub rest-stays : recordAt (written l k bytes) k ≡ laid bytes (recordAt l k)
+  -- who is linked then goes by the records as they are then
+  pub linked-then : (a : Address) → Linked (written l k bytes) a ↔ LinkedOf (records l) (afterWrite l k bytes) a
+
+abbrev pub WritesLeave : Type 0
+WritesLeave = (l : List ℕ) (k : ℕ) (bytes : List ℕ) → length bytes ≤ 8 → startOf k + 8 ≤ length l → WriteLeaves l k bytes

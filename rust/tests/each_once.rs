@@ -88,9 +88,10 @@ fn find_functions(crate_name: &str, text: &str, found: &mut Vec<Function>) {
 
 /// What stands between the parameters and the body.
 fn promise_of(function: &str) -> &str {
-    let end = function
-        .find("\n{\n")
-        .or_else(|| function.find("\n    {\n"))
+    let end = ["\n{\n", "\n    {\n"]
+        .iter()
+        .filter_map(|body| function.find(body))
+        .min()
         .or_else(|| function.find(" {\n"))
         .expect("a function has a body");
     let head = &function[..end];

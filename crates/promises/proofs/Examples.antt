@@ -17,12 +17,15 @@ use Rattle.dimmer.specs.Load.{statusDeed, percentDeed}
 use Rattle.dimmer.specs.Properties.{propertyEntry, propertiesEntry}
 use Rattle.decide.specs.Decide.{directPlan}
 use Rattle.decide.specs.Ruling.{rulingBy}
-use Rattle.device.specs.Run.{runOf}
+use Rattle.device.specs.Run.{runOf, endOf}
+use Rattle.modem.specs.Arrived.{frameStart}
+use Rattle.modem.specs.Frames.{framedBy}
+use Rattle.modem.specs.Stream.{cutBy}
 use Rattle.promises.specs.Bench.{withLevel, withRamp, fresh, us, linked, stranger, zeros, first-record, other-record, memory, direct, long, cleanup, broadcast, reply, room}
 use Rattle.promises.specs.Table.{AllRight}
 use Rattle.promises.specs.Examples.{head, database, examples}
 use Rattle.promises.specs.Refusals.{ping, refusals}
-use Rattle.promises.specs.Sequence.{calls, OneAfterTheOther}
+use Rattle.promises.specs.Sequence.{calls, OneAfterTheOther, FrameAfterFrame}
 
 pub examples-right : AllRight examples
 unfolding choose firstFrom flagged standards extendeds groupCommandOf kindOf readOf placeOf stopOf writtenIfThere recordsFrom
@@ -42,3 +45,8 @@ pub one-after-the-other : OneAfterTheOther
 unfolding choose firstFrom standards kindOf readOf stopOf statusDeed percentDeed directPlan rulingBy runOf withLevel withRamp
     fresh us linked zeros first-record memory direct reply room calls
 one-after-the-other = refl
+
+pub frame-after-frame : FrameAfterFrame
+unfolding choose firstFrom standards kindOf readOf stopOf statusDeed percentDeed directPlan rulingBy runOf endOf frameStart cutBy framedBy
+    withLevel withRamp fresh us linked zeros first-record memory direct reply room
+frame-after-frame = refl

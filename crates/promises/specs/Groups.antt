@@ -56,7 +56,8 @@ module _ (m : Module) (l s room : List ℕ) where
   -- else 8
   abbrev pub BroadcastElse : Type 0
   BroadcastElse =
-      isFit l ≡ true → wellFormed s (m .identity .address) ≡ true → isBroadcast s ≡ true → Unconcerned l s → numberOf (stepOf m l s room .outcome) ≡ 8
+      isFit l ≡ true → wellFormed s (m .identity .address) ≡ true → isBroadcast s ≡ true → Unconcerned l s →
+      numberOf (stepOf m l s room .outcome) ≡ 8
 
   -- a cleanup: group in Command 2
   abbrev pub CleanupTaken : Type 0

@@ -16,9 +16,11 @@ pub data Legal (m : Module) (l s : List ℕ) (e : Effect) : Type 0 where
 -- with fit link memory and room enough, every legal command of a linked sender takes its stated effect
 abbrev pub TakesEffect : Type 0
 TakesEffect =
-    (m : Module) (l s room : List ℕ) (e : Effect) → FromLinked m l s → length (e .reply) ≤ length room → Legal m l s e → Taken room e (stepOf m l s room)
+    (m : Module) (l s room : List ℕ) (e : Effect) → FromLinked m l s → length (e .reply) ≤ length room → Legal m l s e →
+    Taken room e (stepOf m l s room)
 
 -- and outside the tables a linked sender's command gives 7
 abbrev pub ElseSeven : Type 0
 ElseSeven =
-    (m : Module) (l s room : List ℕ) → FromLinked m l s → 9 ≤ length room → ((e : Effect) → ¬ Legal m l s e) → numberOf (stepOf m l s room .outcome) ≡ 7
+    (m : Module) (l s room : List ℕ) → FromLinked m l s → 9 ≤ length room → ((e : Effect) → ¬ Legal m l s e) →
+    numberOf (stepOf m l s room .outcome) ≡ 7

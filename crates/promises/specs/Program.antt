@@ -58,7 +58,8 @@ pub data Frame (f : List ℕ) : Type 0 where
 -- bytes in which these frames stand one behind the other, others before each of them, and at the end the bytes kept
 pub data Holds : List ℕ → List (List ℕ) → List ℕ → Type 0 where
   end : {s : List ℕ} (skipped kept : List ℕ) → s ≡ skipped ++ kept → Holds s [] kept
-  next : {s rest kept : List ℕ} {frames : List (List ℕ)} (skipped frame : List ℕ) → s ≡ skipped ++ (frame ++ rest) → Frame frame → Holds rest frames kept
+  next : {s rest kept : List ℕ} {frames : List (List ℕ)} (skipped frame : List ℕ) → s ≡ skipped ++ (frame ++ rest) → Frame frame
+      → Holds rest frames kept
       → Holds s (frame ∷ frames) kept
 
 -- a frame cut by the end of input is dropped: what is served stands whole in the input, and what is kept, less than a frame, stands behind it

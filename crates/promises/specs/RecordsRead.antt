@@ -37,7 +37,8 @@ pub data Reads (m : Module) (l s : List ℕ) : ℕ → Type 0 where
   none : NoSearch m l s → Reads m l s 0
   matching : ¬ NoSearch m l s → (k : ℕ) → Sought l s k → ((j : ℕ) → j < k → ¬ Sought l s j) → Reads m l s (k + 1)
   end-mark : ¬ NoSearch m l s → (k : ℕ) → FirstUnused l k → ((j : ℕ) → ¬ Sought l s j) → Reads m l s (k + 1)
-  all : ¬ NoSearch m l s → ((j : ℕ) → j < records l → isEndMark (recordAt l j) ≡ false) → ((j : ℕ) → ¬ Sought l s j) → Reads m l s (records l)
+  all : ¬ NoSearch m l s → ((j : ℕ) → j < records l → isEndMark (recordAt l j) ≡ false) → ((j : ℕ) → ¬ Sought l s j)
+      → Reads m l s (records l)
 
 -- with every result, whatever the room
 abbrev pub RecordsRead : Type 0

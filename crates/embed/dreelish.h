@@ -1,20 +1,28 @@
-/* The bench dimmer for C: one message to one module. Link with libembed.a. */
+/* The bench modules for C: one message to one module. Link with libembed.a. */
 #ifndef DREELISH_H
 #define DREELISH_H
 
 #include <stddef.h>
 #include <stdint.h>
 
-#define DREELISH_MODULE 15  /* bytes of a module */
-#define DREELISH_ROOM 5897  /* room for the longest reply */
-#define DREELISH_UNFIT 255  /* a module of another length, or a report shorter than 2: nothing is altered */
+#define DREELISH_DIMMER 0x01      /* kinds of modules, */
+#define DREELISH_OUTLET 0x02
+#define DREELISH_DIMMER_LENGTH 16 /* and the bytes of each */
+#define DREELISH_OUTLET_LENGTH 15
+#define DREELISH_ROOM 5897        /* room for the longest reply */
+#define DREELISH_UNFIT 255        /* no such kind, a module of another length than its kind's, or a report shorter than 2 */
 
 /*
- * module: address (3), category, subcategory, firmware, hardware revision, level, flags, ramp, on level, LED, house, unit,
- * delta; it is brought up to date. links: link memory, which a linked sender may write. room: the reply goes to its start.
+ * module, by places; it is brought up to date from 8 on, and what stands before is never written:
+ *   0 its kind, 1 to 3 address, 4 category, 5 subcategory, 6 firmware, 7 hardware revision,
+ *   8 flags, 9 LED, 10 house, 11 unit, 12 delta,
+ *   then of a dimmer 13 level, 14 ramp, 15 on level,
+ *   and of an outlet 13 top socket, 14 bottom socket: 00 off, 01 on; any other byte counts as on, and is left as 01.
+ * links: link memory, which a linked sender may write. room: the reply goes to its start.
  * report: [0] the reply's length, [1] the records read.
  *
- * The answer is the result number, 0 to 8, or DREELISH_UNFIT. The five places must not overlap; any of them may be empty.
+ * The answer is the result number, 0 to 8, or DREELISH_UNFIT, with which nothing is altered. The five places must not overlap;
+ * any of them may be empty.
  */
 uint64_t dreelish_step(uint8_t *module, size_t module_length, uint8_t *links, size_t links_length, const uint8_t *message,
     size_t message_length, uint8_t *room, size_t room_length, uint64_t *report, size_t report_length);

@@ -1,7 +1,9 @@
 //! Examples as the paper gives them, each run by the library and by the second reading.
 
 use crate::library::{self, Image};
-use crate::paper::{self, Address, Module, Outcome, BENCH};
+use crate::paper::lamp::Lamp;
+use crate::paper::sockets::Sockets;
+use crate::paper::{self, Address, Load, Module, ModuleKind, Outcome, BENCH};
 
 pub const LINKED: Address = [0xAA, 0xBB, 0xCC];
 pub const STRANGER: Address = [0x11, 0x22, 0x33];
@@ -37,10 +39,10 @@ pub struct Comes {
 }
 
 impl Example {
-    /// `message` from the start that the paper describes.
+    /// `message` to the dimmer, from the start that the paper describes.
     pub fn of(message: Vec<u8>) -> Self {
         Self {
-            module: Module::fresh(BENCH),
+            module: Module::bench(ModuleKind::Dimmer),
             links: LINKS.to_vec(),
             room: ENOUGH,
             message,
@@ -63,6 +65,12 @@ impl Example {
 
     pub fn broadcast(from: Address, command1: u8, group: u8) -> Self {
         Self::of(standard(from, [0x00, 0x00, group], 0xCF, [command1, 0x00]))
+    }
+
+    /// The same to a fresh outlet at the same address.
+    pub fn to_outlet(mut self) -> Self {
+        self.module = Module::bench(ModuleKind::Outlet);
+        self
     }
 
     /// With a module that is not fresh.
@@ -139,7 +147,23 @@ impl Example {
     }
 }
 
-/// A reply of one standard message from the bench dimmer.
+/// The load of a dimmer.
+pub fn lamp(module: &mut Module) -> &mut Lamp {
+    match &mut module.load {
+        Load::Lamp(lamp) => lamp,
+        Load::Sockets(_) => panic!("an outlet has no lamp"),
+    }
+}
+
+/// The load of an outlet.
+pub fn sockets(module: &mut Module) -> &mut Sockets {
+    match &mut module.load {
+        Load::Lamp(_) => panic!("a dimmer has no sockets"),
+        Load::Sockets(sockets) => sockets,
+    }
+}
+
+/// A reply of one standard message from the bench's module.
 pub fn reply(to: Address, flags: u8, command1: u8, command2: u8) -> Vec<u8> {
     standard(BENCH.address, to, flags, [command1, command2])
 }

@@ -2,13 +2,17 @@
 
 #![allow(unsafe_code)]
 
-use crate::paper::{Identity, Module, Outcome};
+use crate::paper::{Identity, Load, Module, Outcome};
 
-/// The number for a module image or a report that does not fit.
+/// The number for a module's image or a report that does not fit.
 pub const UNFIT: u64 = 255;
 
-/// The module as the library keeps it.
-pub type Image = [u8; 15];
+/// The first byte of a module's image.
+pub const DIMMER: u8 = 0x01;
+pub const OUTLET: u8 = 0x02;
+
+/// The module as the library keeps it; how long that is depends on its kind.
+pub type Image = Vec<u8>;
 
 mod c {
     extern "C" {
@@ -53,8 +57,8 @@ pub fn call(
     }
 }
 
-/// One message to a module of the right length.
-pub fn step(image: &mut Image, links: &mut [u8], message: &[u8], room: &mut [u8]) -> Outcome {
+/// One message to a module whose image fits.
+pub fn step(image: &mut [u8], links: &mut [u8], message: &[u8], room: &mut [u8]) -> Outcome {
     // A report that is not written shows.
     let mut report = [u64::MAX; 2];
     let result = call(image, links, message, room, &mut report);
@@ -74,21 +78,18 @@ pub fn image(module: &Module) -> Image {
         firmware,
         hardware,
     } = module.identity;
-    [
-        a0,
-        a1,
-        a2,
-        category,
-        subcategory,
-        firmware,
-        hardware,
-        module.level,
-        module.flags,
-        module.ramp,
-        module.on_level,
-        module.led,
-        module.house,
-        module.unit,
-        module.delta,
-    ]
+    let (kind, load) = match module.load {
+        Load::Lamp(lamp) => (DIMMER, vec![lamp.level, lamp.ramp, lamp.on_level]),
+        Load::Sockets(sockets) => (OUTLET, vec![sockets.top.into(), sockets.bottom.into()]),
+    };
+    let who = [kind, a0, a1, a2, category, subcategory, firmware, hardware];
+    let Module {
+        flags,
+        led,
+        house,
+        unit,
+        delta,
+        ..
+    } = *module;
+    [&who[..], &[flags, led, house, unit, delta], &load].concat()
 }

@@ -11,16 +11,16 @@ use std::thread;
 use std::time::{Duration, Instant};
 
 use crate::framing;
-use crate::paper::{self, Module, BENCH, LONGEST_REPLY};
+use crate::paper::{self, Module, ModuleKind, LONGEST_REPLY};
 
 const RUN: &str = concat!(env!("CARGO_MANIFEST_DIR"), "/../run");
 const FOLDERS: &str = concat!(env!("CARGO_MANIFEST_DIR"), "/../target/cargo/tmp");
 /// How long a reply or the end may take on a busy machine.
 const PATIENCE: Duration = Duration::from_secs(60);
 
-/// The bytes that the paper has the program write for `stream`, from its start to the end of input.
-pub fn expected(links: &[u8], stream: &[u8]) -> Vec<u8> {
-    let (mut module, mut links) = (Module::fresh(BENCH), links.to_vec());
+/// The bytes that the paper has the program write for `stream`, from its start to the end of input, with a module of that kind.
+pub fn expected(kind: ModuleKind, links: &[u8], stream: &[u8]) -> Vec<u8> {
+    let (mut module, mut links) = (Module::bench(kind), links.to_vec());
     let mut room = [0; LONGEST_REPLY];
     let mut output = Vec::new();
     for message in framing::messages(stream) {

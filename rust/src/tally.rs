@@ -4,56 +4,48 @@ use std::collections::BTreeMap;
 use std::fmt;
 
 use crate::paper::message::{Kind, Message};
+use crate::paper::ModuleKind;
 
-/// Every row that can be carried out.
-pub const ROWS: [&str; 34] = [
-    "0D",
-    "0F",
-    "10",
-    "11",
-    "12",
-    "13",
-    "14",
-    "15",
-    "16",
-    "19 00",
-    "19 06",
-    "1F 00",
-    "1F 01",
-    "21",
-    "2E",
-    "2F",
-    "30",
-    "39",
-    "extended 20",
-    "extended 2E, 00",
-    "extended 2E, 04",
-    "extended 2E, 05",
-    "extended 2E, 06",
-    "extended 2E, 07",
-    "extended 2F, 00",
-    "extended 2F, 02",
-    "broadcast 11",
-    "broadcast 12",
-    "broadcast 13",
-    "broadcast 14",
-    "cleanup 11",
-    "cleanup 12",
-    "cleanup 13",
-    "cleanup 14",
+/// The rows that every kind can carry out.
+#[rustfmt::skip]
+const EVERY: [&str; 23] = [
+    "0D", "0F", "10", "11", "13", "19 00", "1F 00", "1F 01", "30",
+    "extended 20", "extended 2E, 00", "extended 2E, 04", "extended 2E, 07", "extended 2F, 00", "extended 2F, 02",
+    "broadcast 11", "broadcast 12", "broadcast 13", "broadcast 14",
+    "cleanup 11", "cleanup 12", "cleanup 13", "cleanup 14",
 ];
 
-#[derive(Default)]
+/// Those that a dimmer can beside them, and an outlet.
+#[rustfmt::skip]
+const DIMMER: [&str; 11] = [
+    "12", "14", "15", "16", "19 06", "21", "2E", "2F", "39", "extended 2E, 05", "extended 2E, 06",
+];
+const OUTLET: [&str; 3] = ["19 01", "extended 11", "extended 13"];
+
 pub struct Tally {
+    listed: Vec<&'static str>,
     results: [usize; 9],
     rows: BTreeMap<&'static str, usize>,
 }
 
 impl Tally {
+    /// Of messages to modules of one kind.
+    pub fn of(kind: ModuleKind) -> Self {
+        let own: &[&str] = match kind {
+            ModuleKind::Dimmer => &DIMMER,
+            ModuleKind::Outlet => &OUTLET,
+        };
+        Self {
+            listed: [&EVERY, own].concat(),
+            results: [0; 9],
+            rows: BTreeMap::new(),
+        }
+    }
+
     pub fn count(&mut self, message: &[u8], result: u8) {
         self.results[usize::from(result)] += 1;
         if result == 0 {
-            *self.rows.entry(row(message)).or_default() += 1;
+            *self.rows.entry(self.row(message)).or_default() += 1;
         }
     }
 
@@ -61,18 +53,25 @@ impl Tally {
         self.results.iter().sum()
     }
 
-    fn carried_out(&self, row: &str) -> usize {
-        self.rows.get(row).copied().unwrap_or(0)
-    }
-
     pub fn assert_at_least(&self, each_result: usize, each_row: usize) {
         for (result, &count) in self.results.iter().enumerate() {
             assert!(count >= each_result, "result {result} came {count} times");
         }
-        for row in ROWS {
+        for &row in &self.listed {
             let count = self.carried_out(row);
             assert!(count >= each_row, "{row} was carried out {count} times");
         }
+    }
+
+    fn carried_out(&self, row: &str) -> usize {
+        self.rows.get(row).copied().unwrap_or(0)
+    }
+
+    /// The row that a message which was carried out belongs to.
+    fn row(&self, message: &[u8]) -> &'static str {
+        let name = name(message);
+        let listed = self.listed.iter().find(|&&row| row == name);
+        listed.unwrap_or_else(|| panic!("{name} is no row of the paper"))
     }
 }
 
@@ -81,7 +80,7 @@ impl fmt::Display for Tally {
         for (result, count) in self.results.iter().enumerate() {
             writeln!(f, "result {result}: {count:>7}")?;
         }
-        for row in ROWS {
+        for row in &self.listed {
             let count = self.carried_out(row);
             writeln!(f, "carried out {row:<15}: {count:>6}")?;
         }
@@ -89,18 +88,17 @@ impl fmt::Display for Tally {
     }
 }
 
-/// The row that a message which was carried out belongs to.
-fn row(message: &[u8]) -> &'static str {
+fn name(message: &[u8]) -> String {
     let message = Message::read(message).expect("what was carried out can be read");
     let (command1, command2) = (message.command1, message.command2);
-    let name = match (message.kind(), message.data) {
+    match (message.kind(), message.data) {
         (Some(Kind::Broadcast), _) => format!("broadcast {command1:02X}"),
         (Some(Kind::Cleanup), _) => format!("cleanup {command1:02X}"),
-        (_, Some(_)) if command1 == 0x20 => "extended 20".to_string(),
-        (_, Some(data)) => format!("extended {command1:02X}, {:02X}", data.at(2)),
+        (_, Some(data)) if matches!(command1, 0x2E | 0x2F) => {
+            format!("extended {command1:02X}, {:02X}", data.at(2))
+        }
+        (_, Some(_)) => format!("extended {command1:02X}"),
         (_, None) if matches!(command1, 0x19 | 0x1F) => format!("{command1:02X} {command2:02X}"),
         (_, None) => format!("{command1:02X}"),
-    };
-    let listed = ROWS.into_iter().find(|&row| row == name);
-    listed.unwrap_or_else(|| panic!("{name} is no row of the paper"))
+    }
 }

@@ -1,6 +1,6 @@
 //! "Bench examples", P1 to P15 and the checksums to run. Every expected byte was typed from the paper.
 
-use dreelish_tests::example::{reply, Example, LINKED, STRANGER};
+use dreelish_tests::example::{lamp, reply, Example, LINKED, STRANGER};
 
 /// A record write with Data 1 = 01 and the record of the paper's second checksum.
 fn write(address: [u8; 2], length: u8, data14: u8) -> Example {
@@ -68,7 +68,7 @@ fn p5_linked_sender_switches_on() {
         0,
         1,
         &[0x00, 0x10, 0x3A, 0xAA, 0xBB, 0xCC, 0x2B, 0x11, 0x80],
-        |comes| comes.module.level = 0x80,
+        |comes| lamp(&mut comes.module).level = 0x80,
     );
 }
 
@@ -79,24 +79,25 @@ fn p6_brighter_and_darker_stop_at_the_ends() {
         let ack = reply(LINKED, 0x2B, 0x15, 0x00);
         brighter
             .clone()
-            .starting(|module| module.level = level)
+            .starting(|module| lamp(module).level = level)
             .comes_to(0, 1, &ack, |comes| {
-                comes.module.level = 0xFF;
+                lamp(&mut comes.module).level = 0xFF;
             });
     }
     let ack = reply(LINKED, 0x2B, 0x16, 0x00);
     Example::direct(LINKED, 0x16, 0x00)
-        .starting(|module| module.level = 0x07)
-        .comes_to(0, 1, &ack, |comes| comes.module.level = 0x00);
+        .starting(|module| lamp(module).level = 0x07)
+        .comes_to(0, 1, &ack, |comes| lamp(&mut comes.module).level = 0x00);
 }
 
 #[test]
 fn p7_per_cent() {
     let ack = reply(LINKED, 0x2B, 0x39, 0x32);
-    Example::direct(LINKED, 0x39, 0x32).comes_to(0, 1, &ack, |comes| comes.module.level = 0x80);
+    Example::direct(LINKED, 0x39, 0x32)
+        .comes_to(0, 1, &ack, |comes| lamp(&mut comes.module).level = 0x80);
     let ack = reply(LINKED, 0x2B, 0x00, 0x32);
     Example::direct(LINKED, 0x19, 0x06)
-        .starting(|module| module.level = 0x80)
+        .starting(|module| lamp(module).level = 0x80)
         .only_answers(0, 1, &ack);
     let nak = reply(LINKED, 0xAB, 0x39, 0xFB);
     Example::direct(LINKED, 0x39, 0x65).only_answers(7, 1, &nak);
@@ -105,9 +106,11 @@ fn p7_per_cent() {
 #[test]
 fn p8_standard_2e() {
     let ack = reply(LINKED, 0x2B, 0x2E, 0xF7);
-    Example::direct(LINKED, 0x2E, 0xF7).comes_to(0, 1, &ack, |comes| comes.module.level = 0xFF);
+    Example::direct(LINKED, 0x2E, 0xF7)
+        .comes_to(0, 1, &ack, |comes| lamp(&mut comes.module).level = 0xFF);
     let ack = reply(LINKED, 0x2B, 0x2E, 0x0F);
-    Example::direct(LINKED, 0x2E, 0x0F).comes_to(0, 1, &ack, |comes| comes.module.level = 0x0F);
+    Example::direct(LINKED, 0x2E, 0x0F)
+        .comes_to(0, 1, &ack, |comes| lamp(&mut comes.module).level = 0x0F);
 }
 
 #[test]
@@ -125,8 +128,8 @@ fn p10_ramp() {
     let ack = reply(LINKED, 0x2B, 0x2E, 0x00);
     set_ramp(0x1F, 0xAE).only_answers(0, 1, &ack);
     set_ramp(0x1F, 0xAE)
-        .starting(|module| module.ramp = 0x00)
-        .comes_to(0, 1, &ack, |comes| comes.module.ramp = 0x1F);
+        .starting(|module| lamp(module).ramp = 0x00)
+        .comes_to(0, 1, &ack, |comes| lamp(&mut comes.module).ramp = 0x1F);
     let nak = reply(LINKED, 0xAB, 0x2E, 0xFB);
     set_ramp(0x20, 0xAD).only_answers(7, 1, &nak);
 }
@@ -178,7 +181,7 @@ fn p13_whole_database() {
 fn p14_group_broadcast() {
     Example::broadcast(LINKED, 0x11, 0x01)
         .room(0)
-        .comes_to(0, 1, &[], |comes| comes.module.level = 0x80);
+        .comes_to(0, 1, &[], |comes| lamp(&mut comes.module).level = 0x80);
 }
 
 #[test]

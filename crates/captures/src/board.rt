@@ -4,17 +4,33 @@ use crate::text::bytes_in;
 use crate::text::number_in;
 use basis::min;
 use embed::call::dreelish_step;
+ghost use Prim.Native.Nat.{_≤_};
 ghost use Rattle.io.specs.Counts.{Counts};
 
 // What the room holds before a message.
 pub(crate) const BLANK: u8 = 0xee;
 
-// A module, byte by byte.
-pub(crate) type Image = [u8; 15];
+// A module, byte by byte, with the number of its kind first; an outlet's has a byte fewer.
+pub(crate) type Image = [u8; 16];
 
-// A fresh module, but for the first seven bytes, which say who it is: level and flags 00, ramp 1F, on level FF, LED 3F,
-// house and unit 20, delta 00.
-const FRESH: Image = *b"\0\0\0\0\0\0\0\x00\x00\x1f\xff\x3f\x20\x20\x00";
+// The number of an outlet; any other is taken for a dimmer's.
+pub(crate) const OUTLET: u8 = 0x02;
+
+// Fresh modules, but for the seven bytes that say who they are: flags 00, LED 3F, house and unit 20, delta 00; then level 00,
+// ramp 1F, on level FF; or top and bottom off, and the byte that is none of an outlet's.
+pub(crate) const FRESH_DIMMER: Image = *b"\x01\0\0\0\0\0\0\0\x00\x3f\x20\x20\x00\x00\x1f\xff";
+
+pub(crate) const FRESH_OUTLET: Image = *b"\x02\0\0\0\0\0\0\0\x00\x3f\x20\x20\x00\x00\x00\0";
+
+// How many bytes the image of a kind has.
+pub(crate) fn image_size(image: Image) -> usize
+    ensures { λ r. ⌜ r ≤ 16 ⌝ }
+{
+    match image[0] {
+        OUTLET => 15,
+        _ => 16,
+    }
+}
 
 pub(crate) struct State {
     pub module: Image,
@@ -40,14 +56,14 @@ pub(crate) struct Board {
 
 pub(crate) fn blank() -> Board {
     let state = State {
-        module: FRESH,
+        module: FRESH_DIMMER,
         links: [0; 2056],
         size: 0,
     };
     Board {
         start: state,
         now: state,
-        before: FRESH,
+        before: FRESH_DIMMER,
         room: [BLANK; 5897],
         room_size: 5897,
         result: 0,
@@ -61,9 +77,9 @@ pub(crate) fn blank() -> Board {
 }
 
 impl Board {
-    pub(crate) fn identified(mut self, line: &[u8]) -> Board {
-        let mut module = FRESH;
-        bytes_to(line, &mut module[0..7]);
+    pub(crate) fn identified(mut self, line: &[u8], fresh: Image) -> Board {
+        let mut module = fresh;
+        bytes_to(line, &mut module[1..8]);
         let mut now = self.now;
         now.module = module;
         self.now = now;
@@ -142,6 +158,7 @@ fn stepped(board: Board, module: Image, links: [u8; 2056], message: &[u8]) -> Bo
     let size = now.size;
     let k = board.room_size;
     let before = module;
+    let n = image_size(module);
     let mut module = module;
     let mut links = links;
     let mut room = [BLANK; 5897];
@@ -153,7 +170,7 @@ fn stepped(board: Board, module: Image, links: [u8; 2056], message: &[u8]) -> Bo
         return next;
     }
     next.result = dreelish_step(
-        &mut module,
+        &mut module[0..n],
         &mut links[0..size],
         message,
         &mut room[0..k],

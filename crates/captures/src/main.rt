@@ -1,6 +1,7 @@
-// Examples of the paper and captures of source document 003, run through the code and compared byte by byte.
+// Examples of the paper and captures of source documents 003 and 002, run through the code and compared byte by byte.
 // Standard input has them as text: a word and what belongs to it on each line, `+` where a line goes on.
-//   identity         begins a fresh module: address, category, subcategory, firmware, revision
+//   identity         begins a fresh dimmer: address, category, subcategory, firmware, revision
+//   outlet           begins a fresh outlet, by the same
 //   with             gives it values by name, `with level 7F delta 03`; what is not named stays
 //   links            sets the link memory; fill makes it so many bytes long
 //   keep             makes this the state that every case begins with
@@ -9,13 +10,15 @@
 //   number, searched, answer, database
 //                    are the result, the records read, the reply and the link memory after it; `..` is any byte
 //   then             is the module after it: what is named, `then level 80`, and all else as it was before the message
-// The names are level, flags, ramp, on-level, led, house, unit and delta.
+// The names are flags, led, house, unit and delta; level, ramp and on-level of a dimmer; top and bottom, 01 on or 00 off, of an outlet.
 mod board;
 mod compare;
 mod text;
 mod values;
 
 use board::Board;
+use board::FRESH_DIMMER;
+use board::FRESH_OUTLET;
 use board::blank;
 use board::hear;
 use compare::told;
@@ -56,7 +59,8 @@ fn take(board: Board, line: &[u8]) -> Board {
     }
     match line[0] {
         b'#' | b'\n' => board,
-        b'i' => board.identified(line),
+        b'i' => board.identified(line, FRESH_DIMMER),
+        b'o' => board.identified(line, FRESH_OUTLET),
         b'w' => given(board, line),
         b'l' => board.with_links(line),
         b'f' => board.filled(line),

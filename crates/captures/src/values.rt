@@ -1,6 +1,8 @@
 // The values of a module by name, as a line gives or expects them.
 use crate::board::Board;
 use crate::board::Image;
+use crate::board::OUTLET;
+use crate::board::image_size;
 use crate::compare::differed;
 use crate::compare::matched;
 use crate::compare::show_digits;
@@ -10,19 +12,24 @@ use crate::text::is_equal;
 use crate::text::next_word;
 use libc::STDOUT_FILENO;
 
-// The names of an image's bytes, in their order; those of the identity too, so that a change there would be shown.
-const NAMES: [u8; 102] =
-    *b"high middle low category subcategory firmware revision level flags ramp on-level led house unit delta ";
+// The names of an image's bytes, in their order; those of kind and identity too, so that a change there would be shown.
+const DIMMER_NAMES: [u8; 107] =
+    *b"kind high middle low category subcategory firmware revision flags led house unit delta level ramp on-level ";
+
+const OUTLET_NAMES: [u8; 98] =
+    *b"kind high middle low category subcategory firmware revision flags led house unit delta top bottom ";
 
 // Before a message: the values that a line names, and the others as they are.
 pub(crate) fn given(board: Board, line: &[u8]) -> Board {
     let mut next = board;
     let mut now = board.now;
-    let mut module = now.module;
-    if !set_values(&mut module, line) {
+    let module = now.module;
+    let made = with_named(module, line);
+    if !made.is_read {
         return unread(board, line);
     }
-    now.module = module;
+    let image = made.image;
+    now.module = image;
     next.now = now;
     next
 }
@@ -32,10 +39,11 @@ pub(crate) fn expected(board: Board, line: &[u8]) -> Board {
     let now = board.now;
     let came = now.module;
     let before = board.before;
-    let mut wanted = before;
-    if !set_values(&mut wanted, line) {
+    let made = with_named(before, line);
+    if !made.is_read {
         return unread(board, line);
     }
+    let wanted = made.image;
     if is_equal(&came, &wanted) {
         return matched(board);
     }
@@ -44,6 +52,22 @@ pub(crate) fn expected(board: Board, line: &[u8]) -> Board {
     show_changes(&before, &came);
     io::write_all(STDOUT_FILENO, b"\n");
     next
+}
+
+// What a line makes of an image, and whether all of the line was read.
+struct Made {
+    image: Image,
+    is_read: bool,
+}
+
+fn with_named(image: Image, line: &[u8]) -> Made {
+    let n = image_size(image);
+    let mut image = image;
+    let is_read = set_values(&mut image[0..n], line);
+    Made {
+        image: image,
+        is_read: is_read,
+    }
 }
 
 // Behind its first word a line has names and bytes by turns; false where it has anything else.
@@ -62,7 +86,10 @@ fn set_values(image: &mut [u8], line: &[u8]) -> bool {
 }
 
 fn set_value(image: &mut [u8], name: &[u8], value: &[u8]) -> bool {
-    let place = place_of(name);
+    if image.len() == 0 {
+        return false;
+    }
+    let place = place_of(image[0], name);
     if place >= image.len() {
         return false;
     }
@@ -74,13 +101,25 @@ fn set_value(image: &mut [u8], name: &[u8], value: &[u8]) -> bool {
     true
 }
 
-// Where the value of a name stands in an image; behind its end where there is none.
-fn place_of(name: &[u8]) -> usize {
-    let names = NAMES;
+// Where the value of a name stands in an image of a kind; behind its end where there is none.
+fn place_of(kind: u8, name: &[u8]) -> usize {
+    match kind {
+        OUTLET => {
+            let names = OUTLET_NAMES;
+            place_in(&names, name)
+        }
+        _ => {
+            let names = DIMMER_NAMES;
+            place_in(&names, name)
+        }
+    }
+}
+
+fn place_in(names: &[u8], name: &[u8]) -> usize {
     let mut place: usize = 0;
     let mut at: usize = 0;
     while at < names.len() {
-        let end = next_word(&names, at + 1);
+        let end = next_word(names, at + 1);
         if is_equal(&names[at..end], name) {
             break;
         }
@@ -92,11 +131,23 @@ fn place_of(name: &[u8]) -> usize {
 
 // What is not as it was, in the form of a `then` line.
 fn show_changes(before: &Image, came: &Image) {
-    let names = NAMES;
+    match came[0] {
+        OUTLET => {
+            let names = OUTLET_NAMES;
+            show_named(&names, before, came)
+        }
+        _ => {
+            let names = DIMMER_NAMES;
+            show_named(&names, before, came)
+        }
+    }
+}
+
+fn show_named(names: &[u8], before: &Image, came: &Image) {
     let mut place: usize = 0;
     let mut at: usize = 0;
     while at < names.len() {
-        let end = next_word(&names, at + 1);
+        let end = next_word(names, at + 1);
         show_change(&names[at..end], before, came, place);
         at = end;
         place += 1;

@@ -3,6 +3,7 @@ use links::memory::Link;
 use module::deed::Deed;
 use module::deed::Entry;
 use module::deed::GroupDeed;
+use module::state::Load;
 use module::state::Module;
 use shared::table::shared_deed;
 use wire::command::Command;
@@ -30,14 +31,20 @@ pub(crate) fn deed_of(
 fn own_entry(m: Module, r: Request, data: [u8; 14], command: Command) -> Entry
     ensures { λ entry. ⌜ entry ≡ ownEntry m r «data» command ⌝ }
 {
-    let lamp = m.load;
-    dimmer::table::entry_of(m, lamp, r, data, command)
+    let load = m.load;
+    match load {
+        Load::Dimmer(lamp) => dimmer::table::entry_of(m, lamp, r, data, command),
+        Load::Outlet(sockets) => outlet::table::entry_of(m, sockets, r, data, command),
+    }
 }
 
 // A group's command, by its deciding record.
 pub(crate) fn group_deed_of(m: Module, command: GroupCommand, link: Link) -> GroupDeed
     ensures { λ deed. ⌜ deed ≡ groupDeedOf m command link ⌝ }
 {
-    let lamp = m.load;
-    dimmer::groups::group_deed(lamp, command, link)
+    let load = m.load;
+    match load {
+        Load::Dimmer(lamp) => dimmer::groups::group_deed(lamp, command, link),
+        Load::Outlet(sockets) => outlet::groups::group_deed(sockets, command, link),
+    }
 }

@@ -10,8 +10,9 @@ use Rattle.device.specs.Run.{State, callOf, leftBy}
 use Rattle.modem.specs.Frames.{framed}
 use Rattle.modem.specs.Serve.{answerOf}
 use Rattle.modem.specs.Stream.{callIn}
-use Rattle.modem.specs.Program.{start}
 use Rattle.desk.specs.declared.answer.Desk.{Desk}
+use Rattle.desk.specs.declared.seat.Kind.{Kind}
+use Rattle.desk.specs.Seat.{startOf}
 use Rattle.desk.specs.Tally.{counted}
 
 -- its module, beside link memory
@@ -19,8 +20,8 @@ abbrev pub stateOf : Desk → List ℕ → State
 stateOf desk l = record { device = desk .«module»; links = l }
 
 -- nothing has been served, and a frame may come
-abbrev pub freshDesk : Desk
-freshDesk = record { «module» = start; tally = replicate 9 0; «is_open» = true }
+abbrev pub freshDesk : Kind → Desk
+freshDesk kind = record { «module» = startOf kind; tally = replicate 9 0; «is_open» = true }
 
 abbrev pub closedOf : Desk → Desk
 closedOf desk = record { «module» = desk .«module»; tally = desk .tally; «is_open» = false }

@@ -4,8 +4,10 @@ use device::step::Answer;
 use libc::STDOUT_FILENO;
 use modem::serve::Served;
 use modem::serve::serve;
+use module::state::Load;
 use module::state::Module;
 use results::number;
+use text::line::LoadShown;
 use text::line::Shown;
 use text::line::put_line;
 use text::line::put_tally;
@@ -13,6 +15,7 @@ ghost use mathlib.Core.Path.{_≡_};
 ghost use Rattle.io.specs.Counts.{Counts};
 ghost use Rattle.results.specs.Number.{numberOf};
 ghost use Rattle.modem.specs.Frames.{framed};
+ghost use Rattle.desk.specs.Seat.{shownOf};
 ghost use Rattle.desk.specs.Tally.{countedAt};
 ghost use Rattle.desk.specs.Desk.{closedOf, AnswerPromise, Handed};
 
@@ -111,16 +114,25 @@ fn send(frames: &[u8], reply: &[u8]) -> bool
 
 fn shown(a: Answer) -> Shown
     ensures { λ r. ⌜
-        r ≡ record { result = numberOf (a .outcome); read = a .read; level = a .next .load .level }
+        r ≡ record { result = numberOf (a .outcome); read = a .read; load = shownOf (a .next .load) }
         ⌝ }
 {
     let outcome = a.outcome;
     let after = a.next;
-    let lamp = after.load;
+    let load = after.load;
     Shown {
         result: number(outcome),
         read: a.read as u64,
-        level: lamp.level,
+        load: load_shown(load),
+    }
+}
+
+fn load_shown(load: Load) -> LoadShown
+    ensures { λ r. ⌜ r ≡ shownOf load ⌝ }
+{
+    match load {
+        Load::Dimmer(lamp) => LoadShown::Level(lamp.level),
+        Load::Outlet(sockets) => LoadShown::Sockets(sockets.top, sockets.bottom),
     }
 }
 

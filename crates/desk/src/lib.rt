@@ -1,16 +1,17 @@
 // What `bench` and `screen` share: link memory from links.bin, frames from standard input, one module ("The program").
 mod answer;
 mod input;
+mod seat;
 mod serve;
+mod word;
 
-use answer::Desk;
 use input::load;
-use module::state::Identity;
-use module::state::Module;
+use seat::Kind;
+use seat::fresh;
 use serve::serve_until_end;
-use wire::address::Address;
-ghost use mathlib.Core.Path.{_≡_};
-ghost use Rattle.desk.specs.Desk.{freshDesk};
+use word::Wish;
+use word::asked;
+use word::list_words;
 
 // What is written for each frame.
 pub enum Show {
@@ -20,8 +21,17 @@ pub enum Show {
     Lines,
 }
 
-// Serves what arrives until it ends. What goes wrong with a file is said on standard error, and ends it too.
+// The module that the command line names serves what arrives until it ends. Where it names none, that is said on standard
+// error, and nothing is read.
 pub fn sit(show: Show) {
+    match asked() {
+        Wish::Seat(kind) => sit_as(show, kind),
+        Wish::Unknown => list_words(),
+    }
+}
+
+// What goes wrong with a file is said on standard error, and ends it too.
+fn sit_as(show: Show, kind: Kind) {
     // one byte more than fits, so that a longer file is seen to be unfit
     let mut memory = [0; 2049];
     let loaded = load(&mut memory);
@@ -36,31 +46,10 @@ pub fn sit(show: Show) {
     let mut out = [0; 18432];
     serve_until_end(
         show,
-        fresh(),
+        fresh(kind),
         &mut memory[..n],
         &mut held,
         &mut room,
         &mut out,
     );
-}
-
-fn fresh() -> Desk
-    ensures { λ r. ⌜ r ≡ freshDesk ⌝ }
-{
-    let identity = Identity {
-        address: Address {
-            high: 0x00,
-            middle: 0x10,
-            low: 0x3a,
-        },
-        category: 0x01,
-        subcategory: 0x0f,
-        firmware: 0xc1,
-        revision: 0x00,
-    };
-    Desk {
-        module: Module::fresh_dimmer(identity),
-        tally: [0; 9],
-        is_open: true,
-    }
 }

@@ -36,7 +36,8 @@ linksAfter l d Change.Nothing = l
 linksAfter l d (Change.Flags x) = l
 linksAfter l d (Change.Led x) = l
 linksAfter l d (Change.X10 house unit) = l
-linksAfter l d (Change.Load x) = l
+linksAfter l d (Change.Lamp x) = l
+linksAfter l d (Change.Sockets x) = l
 linksAfter l d (Change.Record k n) = writtenIfThere l k (take n (drop 5 d))
 
 -- result 5: nothing is sent and nothing altered; the count of the search is kept

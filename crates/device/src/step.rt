@@ -73,7 +73,8 @@ fn write_planned(links: &mut [u8], data: [u8; 14], plan: Plan)
         Change::Flags(_) => {}
         Change::Led(_) => {}
         Change::X10(_, _) => {}
-        Change::Load(_) => {}
+        Change::Lamp(_) => {}
+        Change::Sockets(_) => {}
         Change::Record(k, n) => {
             if n <= 8 {
                 let end = 5 + n;

@@ -8,6 +8,6 @@ use Rattle.dimmer.specs.Lamp.{withLevel}
 
 -- 11, 12 set the level to its D1, 13, 14 to 00
 abbrev pub groupDeed : Lamp → GroupCommand → Link → GroupDeed
-groupDeed lamp GroupCommand.On link = GroupDeed.Done (Change.Load (withLevel (link .d1) lamp))
-groupDeed lamp GroupCommand.Off link = GroupDeed.Done (Change.Load (withLevel 0x00 lamp))
+groupDeed lamp GroupCommand.On link = GroupDeed.Done (Change.Lamp (withLevel (link .d1) lamp))
+groupDeed lamp GroupCommand.Off link = GroupDeed.Done (Change.Lamp (withLevel 0x00 lamp))
 groupDeed lamp GroupCommand.Unlisted link = GroupDeed.Unlisted

@@ -8,9 +8,8 @@ use Rattle.wire.specs.declared.request.Request.{Request}
 use Rattle.wire.specs.declared.command.LoadCommand.{LoadCommand}
 use Rattle.module.specs.declared.state.Lamp.{Lamp}
 use Rattle.module.specs.declared.change.Change.{Change}
-use Rattle.module.specs.declared.deed.Ack.{Ack}
 use Rattle.module.specs.declared.deed.Deed.{Deed}
-use Rattle.module.specs.Deed.{acked}
+use Rattle.module.specs.Deed.{acked, showing}
 use Rattle.dimmer.specs.Lamp.{withLevel}
 
 -- level plus 8, at most FF; level minus 8, at least 00
@@ -33,12 +32,9 @@ levelOf p = (255 * p + 50) / 100
 
 -- the lamp takes a level
 abbrev pub atLevel : Lamp → ℕ → Deed
-atLevel lamp level = acked (Change.Load (withLevel level lamp))
+atLevel lamp level = acked (Change.Lamp (withLevel level lamp))
 
 -- 19: the ACK's Command 1 is the delta; Command 2 says what is shown
-abbrev pub showing : ℕ → Deed
-showing x = Deed.Done Change.Nothing (Ack.AfterDelta x)
-
 abbrev pub statuses : Lamp → List (Row Deed)
 statuses lamp =
     0x00 ⇒ showing (lamp .level) ∷

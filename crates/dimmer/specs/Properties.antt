@@ -18,8 +18,8 @@ use Rattle.dimmer.specs.Lamp.{withRamp, withOnLevel}
 abbrev pub propertyEntries : Module → Lamp → List ℕ → List (Row Entry)
 propertyEntries m lamp d =
     0x00 ⇒ Entry.Own (shownDeed m (dataIn d 1) (lamp .ramp) (lamp .«on_level»)) ∷
-    0x05 ⇒ Entry.Own (limited 0x00 0x1f (dataIn d 3) (Change.Load (withRamp (dataIn d 3) lamp))) ∷
-    0x06 ⇒ Entry.Own (acked (Change.Load (withOnLevel (dataIn d 3) lamp))) ∷
+    0x05 ⇒ Entry.Own (limited 0x00 0x1f (dataIn d 3) (Change.Lamp (withRamp (dataIn d 3) lamp))) ∷
+    0x06 ⇒ Entry.Own (acked (Change.Lamp (withOnLevel (dataIn d 3) lamp))) ∷
     []
 
 unfoldable pub propertyEntry : Module → Lamp → List ℕ → Entry

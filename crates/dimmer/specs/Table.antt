@@ -18,6 +18,8 @@ standardEntry lamp r (Standard.Load command) = Entry.Own (loadDeed lamp r comman
 standardEntry lamp r Standard.Unlisted = Entry.Shared
 
 abbrev pub extendedEntry : Module → Lamp → Request → List ℕ → Extended → Entry
+extendedEntry m lamp r d Extended.On = Entry.Shared
+extendedEntry m lamp r d Extended.Off = Entry.Shared
 extendedEntry m lamp r d Extended.SetFlags = Entry.Shared
 extendedEntry m lamp r d Extended.Properties = propertiesEntry m lamp r d
 extendedEntry m lamp r d Extended.Database = Entry.Shared

@@ -11,11 +11,11 @@ pub fn group_deed(lamp: Lamp, command: GroupCommand, link: Link) -> GroupDeed
     ensures { λ deed. ⌜ deed ≡ groupDeed lamp command link ⌝ }
 {
     match command {
-        GroupCommand::On => GroupDeed::Done(Change::Load(Lamp {
+        GroupCommand::On => GroupDeed::Done(Change::Lamp(Lamp {
             level: link.d1,
             ..lamp
         })),
-        GroupCommand::Off => GroupDeed::Done(Change::Load(Lamp {
+        GroupCommand::Off => GroupDeed::Done(Change::Lamp(Lamp {
             level: 0x00,
             ..lamp
         })),

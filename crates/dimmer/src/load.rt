@@ -5,14 +5,14 @@ use crate::levels::lowered;
 use crate::levels::percent_of;
 use crate::levels::raised;
 use module::change::Change;
-use module::deed::Ack;
 use module::deed::Deed;
 use module::deed::acked;
+use module::deed::showing;
 use module::state::Lamp;
 use wire::command::LoadCommand;
 use wire::request::Request;
 ghost use mathlib.Core.Path.{_≡_};
-ghost use Rattle.dimmer.specs.Load.{atLevel, showing, statusDeed, percentDeed, loadDeed};
+ghost use Rattle.dimmer.specs.Load.{atLevel, statusDeed, percentDeed, loadDeed};
 
 pub(crate) fn load_deed(lamp: Lamp, r: Request, command: LoadCommand) -> Deed
     ensures { λ deed. ⌜ deed ≡ loadDeed lamp r command ⌝ }
@@ -36,7 +36,7 @@ pub(crate) fn load_deed(lamp: Lamp, r: Request, command: LoadCommand) -> Deed
 fn at_level(lamp: Lamp, level: u8) -> Deed
     ensures { λ deed. ⌜ deed ≡ atLevel lamp level ⌝ }
 {
-    acked(Change::Load(Lamp {
+    acked(Change::Lamp(Lamp {
         level: level,
         ..lamp
     }))
@@ -51,12 +51,6 @@ fn status_deed(lamp: Lamp, command2: u8) -> Deed
         0x06 => showing(percent_of(lamp.level)),
         _ => Deed::Unlisted,
     }
-}
-
-fn showing(x: u8) -> Deed
-    ensures { λ deed. ⌜ deed ≡ showing x ⌝ }
-{
-    Deed::Done(Change::Nothing, Ack::AfterDelta(x))
 }
 
 // 39: Command 2 is per cent.

@@ -29,8 +29,8 @@ fn property_entry(m: Module, lamp: Lamp, data: [u8; 14]) -> Entry
     let x = data[2];
     match what {
         0x00 => Entry::Own(shown_deed(m, data[0], lamp.ramp, lamp.on_level)),
-        0x05 => Entry::Own(limited(0x00, 0x1f, x, Change::Load(Lamp { ramp: x, ..lamp }))),
-        0x06 => Entry::Own(acked(Change::Load(Lamp {
+        0x05 => Entry::Own(limited(0x00, 0x1f, x, Change::Lamp(Lamp { ramp: x, ..lamp }))),
+        0x06 => Entry::Own(acked(Change::Lamp(Lamp {
             on_level: x,
             ..lamp
         }))),

@@ -36,6 +36,8 @@ fn extended_entry(m: Module, lamp: Lamp, r: Request, data: [u8; 14], command: Ex
     ensures { λ entry. ⌜ entry ≡ extendedEntry m lamp r «data» command ⌝ }
 {
     match command {
+        Extended::On => Entry::Shared,
+        Extended::Off => Entry::Shared,
         Extended::SetFlags => Entry::Shared,
         Extended::Properties => properties_entry(m, lamp, r, data),
         Extended::Database => Entry::Shared,

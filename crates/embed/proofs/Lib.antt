@@ -1,2 +1,3 @@
 -- Laws of the call for other languages.
+pub mod Held
 pub mod Served

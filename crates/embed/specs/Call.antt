@@ -3,13 +3,13 @@ use Prim.Native.Nat.{ℕ}
 use mathlib.Core.Path.{_≡_}
 use mathlib.Core.Bool.{Bool, _&&_}
 use mathlib.Core.List.{List, [], _∷_}
-use lib.Dec.{eqb, leb}
+use lib.Dec.{leb}
 use lib.ListN.{length}
 use Rattle.basis.specs.Choice.{choose}
 use Rattle.basis.specs.Laid.{laid}
 use Rattle.results.specs.Number.{numberOf}
 use Rattle.device.specs.Step.{Step, stepOf}
-use Rattle.embed.specs.Image.{moduleOf, imageOf}
+use Rattle.embed.specs.Image.{isImage, moduleOf, imageOf}
 
 -- all that comes out of a call
 pub record Returned : Type 0 where
@@ -19,9 +19,9 @@ pub record Returned : Type 0 where
   pub room : List ℕ
   pub report : List ℕ
 
--- an image of fifteen bytes, and a report of two numbers or more
+-- an image of a kind that there is, as long as that kind's, and a report of two numbers or more
 abbrev pub placed : List ℕ → List ℕ → Bool
-placed image report = eqb (length image) 15 && leb 2 (length report)
+placed image report = isImage image && leb 2 (length report)
 
 -- the report begins with the reply's length and the records read
 abbrev pub reported : List ℕ → Step → Returned

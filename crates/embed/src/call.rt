@@ -1,6 +1,7 @@
 // One message to the module that an image holds.
+use crate::image::is_image;
 use crate::image::module_of;
-use crate::image::store;
+use crate::store::store;
 use device::step::step;
 use results::number;
 ghost use Rattle.embed.specs.Call.{CallPromise};
@@ -21,7 +22,7 @@ pub extern "C" fn dreelish_step(
         r (now (image .exit)) (now (links .exit)) (now (room .exit)) (now (report .exit))
         ⌝ }
 {
-    if image.len() != 15 {
+    if !is_image(image) {
         return UNFIT;
     }
     if report.len() < 2 {

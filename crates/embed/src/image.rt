@@ -1,67 +1,85 @@
-// A module as fifteen bytes, so that a caller of another language can hold it ("The module we simulate").
+// A module held as bytes, so that a caller of another language can keep it; dreelish.h has the places.
 use module::state::Identity;
 use module::state::Lamp;
+use module::state::Load;
 use module::state::Module;
+use module::state::Sockets;
 use wire::address::Address;
 ghost use mathlib.Core.Path.{_≡_};
+ghost use mathlib.Core.Bool.{true};
+ghost use Prim.Native.Nat.{_≤_};
 ghost use lib.ListN.{length};
-ghost use Rattle.embed.specs.Image.{moduleOf, imageBy};
+ghost use Rattle.embed.specs.Image.{lengthOf, isImage, loadOf, moduleOf};
+
+// Whether there is such a kind, and the image has its length.
+pub(crate) fn is_image(image: &[u8]) -> bool
+    ensures { λ r. ⌜ r ≡ isImage (now (image .entry)) ⌝ }
+{
+    let length = image.len();
+    if length == 0 {
+        return false;
+    }
+    length == length_of(image[0])
+}
+
+// No image is as short as that of a kind that there is not.
+fn length_of(kind: u8) -> usize
+    ensures { λ r. ⌜ r ≡ lengthOf kind ⌝ }
+{
+    match kind {
+        0x01 => 16,
+        0x02 => 15,
+        _ => 0,
+    }
+}
 
 pub(crate) fn module_of(image: &[u8]) -> Module
-    requires { ⌜ length (now image) ≡ 15 ⌝ }
+    requires { ⌜ isImage (now image) ≡ true ⌝ }
     ensures { λ r. ⌜ r ≡ moduleOf (now (image .entry)) ⌝ }
 {
     Module {
         identity: identity_of(image),
         flags: image[8],
-        led: image[11],
-        house: image[12],
-        unit: image[13],
-        delta: image[14],
-        load: lamp_of(image),
+        led: image[9],
+        house: image[10],
+        unit: image[11],
+        delta: image[12],
+        load: load_of(image),
     }
 }
 
 fn identity_of(image: &[u8]) -> Identity
-    requires { ⌜ length (now image) ≡ 15 ⌝ }
+    requires { ⌜ 15 ≤ length (now image) ⌝ }
     ensures { λ r. ⌜ r ≡ moduleOf (now (image .entry)) .identity ⌝ }
 {
     Identity {
         address: Address {
-            high: image[0],
-            middle: image[1],
-            low: image[2],
+            high: image[1],
+            middle: image[2],
+            low: image[3],
         },
-        category: image[3],
-        subcategory: image[4],
-        firmware: image[5],
-        revision: image[6],
+        category: image[4],
+        subcategory: image[5],
+        firmware: image[6],
+        revision: image[7],
     }
 }
 
-fn lamp_of(image: &[u8]) -> Lamp
-    requires { ⌜ length (now image) ≡ 15 ⌝ }
-    ensures { λ r. ⌜ r ≡ moduleOf (now (image .entry)) .load ⌝ }
+// What is no outlet is a dimmer, as an image is of one of the two.
+fn load_of(image: &[u8]) -> Load
+    requires { ⌜ isImage (now image) ≡ true ⌝ }
+    ensures { λ r. ⌜ r ≡ loadOf (now (image .entry)) ⌝ }
 {
-    Lamp {
-        level: image[7],
-        ramp: image[9],
-        on_level: image[10],
+    let kind = image[0];
+    match kind {
+        0x02 => Load::Outlet(Sockets {
+            top: image[13] != 0x00,
+            bottom: image[14] != 0x00,
+        }),
+        _ => Load::Dimmer(Lamp {
+            level: image[13],
+            ramp: image[14],
+            on_level: image[15],
+        }),
     }
-}
-
-// The values that a message may alter; who the module is stays, as no message alters that.
-pub(crate) fn store(image: &mut [u8], m: Module)
-    requires { ⌜ length (now image) ≡ 15 ⌝ }
-    ensures { λ _. ⌜ now (image .exit) ≡ imageBy (moduleOf (now (image .entry)) .identity) m ⌝ }
-{
-    let lamp = m.load;
-    image[7] = lamp.level;
-    image[8] = m.flags;
-    image[9] = lamp.ramp;
-    image[10] = lamp.on_level;
-    image[11] = m.led;
-    image[12] = m.house;
-    image[13] = m.unit;
-    image[14] = m.delta;
 }

@@ -15,6 +15,10 @@ acked change = Deed.Done change Ack.Repeated
 abbrev pub telling : ℕ → Deed
 telling command2 = Deed.Done Change.Nothing (Ack.Telling command2)
 
+-- nothing changes, and the ACK has the delta for its Command 1, and a value for its Command 2
+abbrev pub showing : ℕ → Deed
+showing command2 = Deed.Done Change.Nothing (Ack.AfterDelta command2)
+
 -- a change where the number is one of a to b
 unfoldable pub limited : ℕ → ℕ → ℕ → Change → Deed
 limited a b x change = choose (within a b x) (acked change) Deed.Unlisted

@@ -2,7 +2,7 @@
 use crate::change::Change;
 use reply::due::DataBytes;
 ghost use mathlib.Core.Path.{_≡_};
-ghost use Rattle.module.specs.Deed.{acked, telling, limited};
+ghost use Rattle.module.specs.Deed.{acked, telling, showing, limited};
 
 // What the ACK says.
 pub enum Ack {
@@ -49,6 +49,13 @@ pub fn telling(command2: u8) -> Deed
     ensures { λ r. ⌜ r ≡ telling command2 ⌝ }
 {
     Deed::Done(Change::Nothing, Ack::Telling(command2))
+}
+
+// Nothing changes, and the ACK has the delta for its Command 1, and a value for its Command 2.
+pub fn showing(command2: u8) -> Deed
+    ensures { λ deed. ⌜ deed ≡ showing command2 ⌝ }
+{
+    Deed::Done(Change::Nothing, Ack::AfterDelta(command2))
 }
 
 // A change where the number is one of `low` to `high`.

@@ -1,7 +1,7 @@
 // One module, as values: what every kind has, and its load ("The module we simulate").
 use wire::address::Address;
 ghost use mathlib.Core.Path.{_≡_};
-ghost use Rattle.module.specs.Module.{freshDimmer};
+ghost use Rattle.module.specs.Module.{freshWith, freshDimmer, freshOutlet};
 
 pub struct Identity {
     pub address: Address,
@@ -11,11 +11,22 @@ pub struct Identity {
     pub revision: u8,
 }
 
-// A dimmer's load.
+// What hangs on a module, by its kind.
+pub enum Load {
+    Dimmer(Lamp),
+    Outlet(Sockets),
+}
+
 pub struct Lamp {
     pub level: u8,
     pub ramp: u8,
     pub on_level: u8,
+}
+
+// Each on or off.
+pub struct Sockets {
+    pub top: bool,
+    pub bottom: bool,
 }
 
 pub struct Module {
@@ -25,7 +36,7 @@ pub struct Module {
     pub house: u8,
     pub unit: u8,
     pub delta: u8,
-    pub load: Lamp,
+    pub load: Load,
 }
 
 // What a fresh module starts with.
@@ -45,23 +56,50 @@ pub const FRESH_UNIT: u8 = 0x20;
 
 pub const FRESH_DELTA: u8 = 0x00;
 
+pub const FRESH_TOP: bool = false;
+
+pub const FRESH_BOTTOM: bool = false;
+
 impl Module {
     // A fresh dimmer of an identity.
     pub fn fresh_dimmer(identity: Identity) -> Module
         ensures { λ r. ⌜ r ≡ freshDimmer identity ⌝ }
     {
-        Module {
-            identity: identity,
-            flags: FRESH_FLAGS,
-            led: FRESH_LED,
-            house: FRESH_HOUSE,
-            unit: FRESH_UNIT,
-            delta: FRESH_DELTA,
-            load: Lamp {
+        fresh(
+            identity,
+            Load::Dimmer(Lamp {
                 level: FRESH_LEVEL,
                 ramp: FRESH_RAMP,
                 on_level: FRESH_ON_LEVEL,
-            },
-        }
+            }),
+        )
+    }
+
+    // A fresh outlet of an identity.
+    pub fn fresh_outlet(identity: Identity) -> Module
+        ensures { λ r. ⌜ r ≡ freshOutlet identity ⌝ }
+    {
+        fresh(
+            identity,
+            Load::Outlet(Sockets {
+                top: FRESH_TOP,
+                bottom: FRESH_BOTTOM,
+            }),
+        )
+    }
+}
+
+// What every kind starts with.
+fn fresh(identity: Identity, load: Load) -> Module
+    ensures { λ r. ⌜ r ≡ freshWith load identity ⌝ }
+{
+    Module {
+        identity: identity,
+        flags: FRESH_FLAGS,
+        led: FRESH_LED,
+        house: FRESH_HOUSE,
+        unit: FRESH_UNIT,
+        delta: FRESH_DELTA,
+        load: load,
     }
 }

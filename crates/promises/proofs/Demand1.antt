@@ -79,10 +79,14 @@ module _ (m : Module) (l s : List ℕ) where
   unfolding kindOf directPlan
   kind-fair d =
       by P (isDirect s)
-      (λ e. as-direct s (not-cleanup e) (either (Fair ReplyType.Nak (requestOf s)) _ (deed-fair m (requestOf s) (deedOf m (requestOf s) d (records l) (commandIn s))) (stranger refl)))
+      (λ e. as-direct s (not-cleanup e)
+      (either (Fair ReplyType.Nak (requestOf s)) _ (deed-fair m (requestOf s) (deedOf m (requestOf s) d (records l) (commandIn s))) (stranger refl)))
       (λ e. by P (isCleanup s)
-      (λ f. as-cleanup s f (by-found (Fair _ _) (found (MessageKind.Cleanup (requestOf s) command)) _ _ (λ link. cleanup-fair (requestOf s) (groupDeedOf m command link)) (stranger refl)))
-      (λ f. by-found (Fair _ _) (found (MessageKind.Broadcast (fromOf s) (toOf s) command)) _ _ (λ link. broadcast-fair _ _ (groupDeedOf m command link)) unconcerned))
+      (λ f. as-cleanup s f
+      (by-found (Fair _ _) (found (MessageKind.Cleanup (requestOf s) command)) _ _
+      (λ link. cleanup-fair (requestOf s) (groupDeedOf m command link)) (stranger refl)))
+      (λ f. by-found (Fair _ _) (found (MessageKind.Broadcast (fromOf s) (toOf s) command)) _ _
+      (λ link. broadcast-fair _ _ (groupDeedOf m command link)) unconcerned))
     where
       command : GroupCommand
       command = groupCommandOf (command1Of s)

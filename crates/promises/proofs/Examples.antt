@@ -15,16 +15,23 @@ use Rattle.shared.specs.Standard.{flagsTold}
 use Rattle.shared.specs.Extended.{propertyDeed, propertiesDeed, recordDeed, databaseDeed}
 use Rattle.dimmer.specs.Load.{statusDeed, percentDeed}
 use Rattle.dimmer.specs.Properties.{propertyEntry, propertiesEntry}
+use Rattle.outlet.specs.Sockets.{fullOf, bitOf, secondDeed}
+use Rattle.outlet.specs.Sockets as outlet-sockets
+use Rattle.outlet.specs.Properties as outlet-properties
+use Rattle.outlet.specs.Groups.{socketDeed}
 use Rattle.decide.specs.Decide.{directPlan}
 use Rattle.decide.specs.Ruling.{rulingBy}
 use Rattle.device.specs.Run.{runOf, endOf}
 use Rattle.modem.specs.Arrived.{frameStart}
 use Rattle.modem.specs.Frames.{framedBy}
 use Rattle.modem.specs.Stream.{cutBy}
-use Rattle.promises.specs.Bench.{withLevel, withRamp, fresh, us, linked, stranger, zeros, first-record, other-record, memory, direct, long, cleanup, broadcast, reply, room}
+use Rattle.promises.specs.Bench.{withLevel, withRamp, fresh, us, linked, stranger, zeros}
+use Rattle.promises.specs.Bench.{first-record, other-record, memory, direct, long, cleanup, broadcast, reply, room}
 use Rattle.promises.specs.Table.{AllRight}
 use Rattle.promises.specs.Examples.{head, database, examples}
 use Rattle.promises.specs.Refusals.{ping, refusals}
+use Rattle.promises.specs.Outlets.{outlet, switched, record-of, to-top-off, to-bottom, to-neither, group-1}
+use Rattle.promises.specs.Outlets.{get, got, id, mute, answered, takes, refuses, outlets}
 use Rattle.promises.specs.Sequence.{calls, OneAfterTheOther, FrameAfterFrame}
 
 pub examples-right : AllRight examples
@@ -50,3 +57,11 @@ pub frame-after-frame : FrameAfterFrame
 unfolding choose firstFrom standards kindOf readOf stopOf statusDeed percentDeed directPlan rulingBy runOf endOf frameStart cutBy framedBy
     withLevel withRamp fresh us linked zeros first-record memory direct reply room
 frame-after-frame = refl
+
+pub outlets-right : AllRight outlets
+unfolding choose firstFrom flagged standards extendeds groupCommandOf kindOf readOf placeOf stopOf writtenIfThere recordsFrom upToMark
+    statusDeed outlet-sockets.statusDeed flagsTold limited secondDeed fullOf bitOf outlet-properties.propertyEntry
+    outlet-properties.propertiesEntry propertyDeed propertiesDeed recordDeed databaseDeed socketDeed directPlan rulingBy fresh us linked
+    stranger zeros first-record other-record memory direct long cleanup broadcast reply room head database outlet switched record-of
+    to-top-off to-bottom to-neither group-1 get got id mute answered takes refuses outlets
+outlets-right = refl

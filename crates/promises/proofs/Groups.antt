@@ -1,6 +1,6 @@
 -- A group command takes its stated effect, and any other is refused as stated.
 use Prim.Native.Nat.{ℕ}
-use mathlib.Core.Path.{_≡_, refl, sym, _∙_, ap}
+use mathlib.Core.Path.{_≡_, refl, sym, _∙_, ap, subst}
 use mathlib.Core.Bool.{Bool, true, false}
 use mathlib.Core.List.{List}
 use mathlib.Core.Logic.{_⊎_, inl, inr}
@@ -22,47 +22,110 @@ use Rattle.links.specs.Search.{searchOf}
 use Rattle.reply.specs.declared.due.ReplyType.{ReplyType}
 use Rattle.results.specs.declared.Outcome.{Outcome}
 use Rattle.results.specs.Number.{numberOf}
+use Rattle.module.specs.declared.state.Lamp.{Lamp}
+use Rattle.module.specs.declared.state.Sockets.{Sockets}
+use Rattle.module.specs.declared.state.Load.{Load}
 use Rattle.module.specs.declared.state.Module.{Module}
+use Rattle.module.specs.declared.change.Change.{Change}
 use Rattle.module.specs.declared.deed.GroupDeed.{GroupDeed}
-use Rattle.module.specs.Plan.{unlinked}
-use Rattle.decide.specs.Dispatch.{groupDeedOf}
+use Rattle.module.specs.Module.{kindOf}
+use Rattle.module.specs.Plan.{unlinked, unlisted}
+use Rattle.decide.specs.Dispatch.{groupDeedBy, groupDeedOf}
 use Rattle.decide.specs.Groups.{isCall, unconcerned, broadcastBy, broadcastPlan, cleanupBy, cleanupPlan}
 use Rattle.decide.specs.Decide.{senderInGroup}
 use Rattle.decide.specs.Ruling.{rulingOf}
 use Rattle.device.specs.Step.{stepOf}
-use Rattle.promises.specs.Responders.{Responder, FirstResponder, NoResponder}
-use Rattle.promises.specs.Groups.{GroupLegal, dimmer, broadcastEffect, cleanupEffect, ToGroup, GroupCommand1, EachHasRow}
-use Rattle.promises.specs.Groups.{Unconcerned, unfit-to, unfit-command, no-responder}
-use Rattle.promises.specs.Groups.{BroadcastTaken, BroadcastElse, CleanupTaken, CleanupUnlinked, CleanupElse}
+use Rattle.promises.specs.Responders.{FirstResponder, NoResponder}
+use Rattle.promises.specs.GroupsDimmer.{on, off}
+use Rattle.promises.specs.GroupsOutlet.{top, bottom}
+use Rattle.promises.specs.Groups.{GroupLegal, dimmer, outlet, NoRow, HasRow, broadcastEffect, cleanupEffect, ToGroup, GroupCommand1}
+use Rattle.promises.specs.Groups.{Unconcerned, unfit-to, unfit-command, no-responder, unfit-record}
+use Rattle.promises.specs.Groups.{EachHasRow, SocketHasRow, NoSocketNoRow, NoCommandNoRow}
+use Rattle.promises.specs.Groups.{BroadcastTaken, BroadcastElse, CleanupTaken, CleanupUnlinked, CleanupElse, CleanupUnfit}
 use Rattle.promises.proofs.Ruled.{cleanup-ruling, broadcast-ruling}
 use Rattle.promises.proofs.Brings.{Brings, brought, numbered-by}
 use Rattle.promises.proofs.Responders.{found-first, found-none, SomeFirst, first-or-none}
-use Rattle.promises.proofs.GroupsDimmer.{Alters, own-alters, own-grouped, own-unlisted, own-row}
+use Rattle.promises.proofs.GroupRows.{Alters, RowJudged, fits, fits-none}
+use Rattle.promises.proofs.GroupsDimmer as dimmers
+use Rattle.promises.proofs.GroupsOutlet as outlets
+
+-- what is carried out is listed, and a dimmer is no outlet
+apart-deeds : {A : Type 0} {change : Change} → GroupDeed.Unlisted ≡ GroupDeed.Done change → A
+apart-deeds e = clash (ap isListed e) refl
+  where
+    isListed : GroupDeed → Bool
+    isListed (GroupDeed.Done change) = true
+    isListed GroupDeed.Unlisted = false
+
+other-kind : {lamp : Lamp} {sockets : Sockets} → Load.Dimmer lamp ≡ Load.Outlet sockets → ⊥
+other-kind e = let z : _≡_ {A = ℕ} 1 2 = ap kindOf e in omega arith
 
 -- by the module's kind
 module _ (m : Module) (s : List ℕ) (link : Link) where
   abbrev command : GroupCommand
   command = groupCommandOf (command1Of s)
 
+  abbrev AltersBy : Module → Load → Type 0
+  AltersBy next load = Alters m next (groupDeedBy load command link)
+
   pub alters : (next : Module) → GroupLegal m s link next → Alters m next (groupDeedOf m command link)
-  alters next (dimmer x) = own-alters m (m .load) s link next x command (commanded (command1Of s))
+  alters next (dimmer lamp is x) = subst (AltersBy next) (sym is) (dimmers.own-alters m lamp s link is next x command (commanded (command1Of s)))
+  alters next (outlet sockets is x) = subst (AltersBy next) (sym is) (outlets.own-alters m sockets s link is next x command (commanded (command1Of s)))
 
   grouped : (next : Module) → GroupLegal m s link next → GroupCommand1 s
-  grouped next (dimmer x) = own-grouped m (m .load) s link next x
+  grouped next (dimmer lamp is x) = dimmers.own-grouped m lamp s link next x
+  grouped next (outlet sockets is x) = outlets.own-grouped m sockets s link next x
 
-  pub unlisted-deed : ¬ GroupCommand1 s → groupDeedOf m command link ≡ GroupDeed.Unlisted
-  unlisted-deed h = own-unlisted m (m .load) s link command (commanded (command1Of s)) h
+  -- a row fits, or the deed is not listed
+  row-judged : RowJudged (GroupLegal m s link) (groupDeedOf m command link)
+  row-judged = by-kind (m .load) refl
+    where
+      of-kind : {deed : GroupDeed} (Row : Module → Type 0) → ((next : Module) → Row next → GroupLegal m s link next)
+          → RowJudged Row deed → RowJudged (GroupLegal m s link) deed
+      of-kind Row row (fits next x) = fits next (row next x)
+      of-kind Row row (fits-none p) = fits-none p
+
+      by-kind : (load : Load) → m .load ≡ load → RowJudged (GroupLegal m s link) (groupDeedBy load command link)
+      by-kind (Load.Dimmer lamp) is = of-kind _ (λ next x. dimmer lamp is x) (dimmers.own-row m lamp s link command (commanded (command1Of s)))
+      by-kind (Load.Outlet sockets) is = of-kind _ (λ next x. outlet sockets is x) (outlets.own-row m sockets s link command (commanded (command1Of s)))
+
+  -- so where none fits, it is not listed
+  pub unlisted-deed : NoRow m s link → groupDeedOf m command link ≡ GroupDeed.Unlisted
+  unlisted-deed none = go row-judged
+    where
+      go : {deed : GroupDeed} → RowJudged (GroupLegal m s link) deed → deed ≡ GroupDeed.Unlisted
+      go (fits next x) = absurd (none next x)
+      go (fits-none p) = p
+
+  pub row-or-none : HasRow m s link ⊎ NoRow m s link
+  row-or-none = go row-judged
+    where
+      go : RowJudged (GroupLegal m s link) (groupDeedOf m command link) → HasRow m s link ⊎ NoRow m s link
+      go (fits next x) = inl (record { next = next; row = x })
+      go (fits-none p) = inr (λ next x. apart-deeds (sym p ∙ alters next x .done))
+
+pub no-command-no-row : NoCommandNoRow
+no-command-no-row m s link h next x = h (grouped m s link next x)
 
 pub each-has-row : EachHasRow
-each-has-row m s link h = own-row m s link (groupCommandOf (command1Of s)) (commanded (command1Of s)) h
-
-pub group-command : (s : List ℕ) → GroupCommand1 s ⊎ (¬ GroupCommand1 s)
-group-command s = go (groupCommandOf (command1Of s)) (commanded (command1Of s))
+each-has-row m lamp s link is h = go (groupCommandOf (command1Of s)) (commanded (command1Of s))
   where
-    go : (command : GroupCommand) → Commanded (command1Of s) command → GroupCommand1 s ⊎ (¬ GroupCommand1 s)
-    go command (turns-on p q) = inl (p, omega arith)
-    go command (turns-off p q) = inl (omega arith, q)
-    go command (neither none) = inr none
+    go : (command : GroupCommand) → Commanded (command1Of s) command → HasRow m s link
+    go command (turns-on p q) = record { next = _; row = dimmer lamp is (on p q) }
+    go command (turns-off p q) = record { next = _; row = dimmer lamp is (off p q) }
+    go command (neither none) = absurd (none h)
+
+pub socket-has-row : SocketHasRow
+socket-has-row m sockets s link is h = go (outlets.some-turn m sockets s link (groupCommandOf (command1Of s)) (commanded (command1Of s)) h)
+  where
+    go : outlets.Turn m sockets s link → (link .d3 ≡ 0x01) ⊎ (link .d3 ≡ 0x02) → HasRow m s link
+    go t (inl e) = record { next = _; row = outlet sockets is (top (t .to) e (t .turns)) }
+    go t (inr e) = record { next = _; row = outlet sockets is (bottom (t .to) e (t .turns)) }
+
+pub no-socket-no-row : NoSocketNoRow
+no-socket-no-row m sockets s link is a b next (dimmer lamp also x) = other-kind (sym also ∙ is)
+no-socket-no-row m sockets s link is a b next (outlet _ also (top x e t)) = a e
+no-socket-no-row m sockets s link is a b next (outlet _ also (bottom x e t)) = b e
 
 -- which broadcasts call a group
 module _ (s : List ℕ) where
@@ -113,14 +176,15 @@ module _ (m : Module) (l s : List ℕ) (f : isFit l ≡ true) (w : wellFormed s 
         → rulingOf m l s .plan ≡ broadcastBy (groupDeedOf m (groupCommandOf (command1Of s)) (linkOf (recordAt l k)))
     ruled-first e k r = ruled-call e ∙ found-first l (fromOf s) (toOf s .low) _ unconcerned k r
 
-    pub ruled-unconcerned : Unconcerned l s → rulingOf m l s .plan ≡ unconcerned
+    pub ruled-unconcerned : Unconcerned m l s → rulingOf m l s .plan ≡ unconcerned
     ruled-unconcerned u = go (calls s (groupCommandOf (command1Of s))) refl u
       where
-        go : (t : Bool) → calls s (groupCommandOf (command1Of s)) ≡ t → Unconcerned l s → rulingOf m l s .plan ≡ unconcerned
+        go : (t : Bool) → calls s (groupCommandOf (command1Of s)) ≡ t → Unconcerned m l s → rulingOf m l s .plan ≡ unconcerned
         go false e u = ruled-no-call e
         go true e (unfit-to h) = absurd (h (calling s e .0))
         go true e (unfit-command h) = absurd (h (calling s e .1))
         go true e (no-responder h) = ruled-call e ∙ found-none l (fromOf s) (toOf s .low) _ unconcerned h
+        go true e (unfit-record k r h) = ruled-first e k r ∙ ap broadcastBy (unlisted-deed m s (linkOf (recordAt l k)) h)
 
   module _ (c : isCleanup s ≡ true) where
     ruled-cleanup : rulingOf m l s .plan ≡ cleanupPlan m (requestOf s) (groupCommandOf (command1Of s)) (searchOf l (senderInGroup (requestOf s)) .found)
@@ -129,6 +193,10 @@ module _ (m : Module) (l s : List ℕ) (f : isFit l ≡ true) (w : wellFormed s 
     pub ruled-responder : (k : ℕ) → FirstResponder l (fromOf s) (command2Of s) k
         → rulingOf m l s .plan ≡ cleanupBy (requestOf s) (groupDeedOf m (groupCommandOf (command1Of s)) (linkOf (recordAt l k)))
     ruled-responder k r = ruled-cleanup ∙ found-first l (fromOf s) (command2Of s) _ (unlinked ReplyType.CleanupNak (requestOf s)) k r
+
+    pub ruled-no-row : (k : ℕ) → FirstResponder l (fromOf s) (command2Of s) k → NoRow m s (linkOf (recordAt l k))
+        → rulingOf m l s .plan ≡ unlisted ReplyType.CleanupNak (requestOf s)
+    ruled-no-row k r h = ruled-responder k r ∙ ap (cleanupBy (requestOf s)) (unlisted-deed m s (linkOf (recordAt l k)) h)
 
     pub ruled-no-responder : NoResponder l (fromOf s) (command2Of s) → rulingOf m l s .plan ≡ unlinked ReplyType.CleanupNak (requestOf s)
     ruled-no-responder h = ruled-cleanup ∙ found-none l (fromOf s) (command2Of s) _ (unlinked ReplyType.CleanupNak (requestOf s)) h
@@ -159,12 +227,12 @@ module _ (m : Module) (l s room : List ℕ) where
   pub cleanup-unlinked : CleanupUnlinked m l s room
   cleanup-unlinked f w c enough h = numbered-by m l s room Outcome.NotLinked _ (ruled-no-responder m l s f w c h) enough
 
+  pub cleanup-unfit : CleanupUnfit m l s room
+  cleanup-unfit f w c enough k r h = numbered-by m l s room Outcome.Unlisted _ (ruled-no-row m l s f w c k r h) enough
+
   pub cleanup-else : CleanupElse m l s room
   cleanup-else f w c enough k r h = go (first-or-none l (fromOf s) (command2Of s))
     where
       go : SomeFirst l (fromOf s) (command2Of s) ⊎ NoResponder l (fromOf s) (command2Of s) → numberOf (stepOf m l s room .outcome) ≡ 7
-      go (inl x) =
-          let link = linkOf (recordAt l (x .place)) in
-          let is = ruled-responder m l s f w c (x .place) (x .decides) ∙ ap (cleanupBy (requestOf s)) (unlisted-deed m s link h) in
-          numbered-by m l s room Outcome.Unlisted _ is enough
+      go (inl x) = cleanup-unfit f w c enough (x .place) (x .decides) (no-command-no-row m s (linkOf (recordAt l (x .place))) h)
       go (inr nobody) = absurd (nobody k r)

@@ -1,11 +1,14 @@
 -- What lasts is shown where it stands: by device, embed and links.
 use Rattle.links.proofs.Written.{length-written, others, itself, linked-after}
 use Rattle.device.proofs.Lasting as device
-use Rattle.embed.proofs.Served as embed
-use Rattle.promises.specs.Lasting.{SameIdentity, WholeModule, WritesLeave}
+use Rattle.embed.proofs.Held as embed
+use Rattle.promises.specs.Lasting.{SameIdentity, SameKind, WholeModule, WritesLeave}
 
 pub same-identity : SameIdentity
 same-identity = device.same-identity
+
+pub same-kind : SameKind
+same-kind = device.same-kind
 
 pub whole-module : WholeModule
 whole-module = embed.whole-module

@@ -13,10 +13,12 @@ use Rattle.basis.specs.Flags.{flagged}
 use Rattle.basis.proofs.Choice.{by}
 use Rattle.basis.proofs.Spelled.{spelled-from}
 use Rattle.wire.specs.declared.command.Standard.{Standard}
+use Rattle.wire.specs.declared.command.OpenCommand.{OpenCommand}
+use Rattle.wire.specs.declared.command.ModuleCommand.{ModuleCommand}
 use Rattle.wire.specs.declared.command.Extended.{Extended}
 use Rattle.wire.specs.declared.command.Command.{Command}
 use Rattle.wire.specs.Bytes.{fromOf, command1Of, command2Of, requestOf, dataAt, dataOf, isExtended, isWhole}
-use Rattle.wire.specs.Commands.{standards, extendeds, standardOf, extendedOf}
+use Rattle.wire.specs.Commands.{standards, extendeds}
 use Rattle.wire.proofs.Whole.{by-length}
 use Rattle.links.specs.declared.name.Place.{Place}
 use Rattle.links.specs.Record.{records}
@@ -34,9 +36,12 @@ use Rattle.module.proofs.Limited.{by-limits}
 use Rattle.shared.specs.Standard.{flagsTold, standardDeed}
 use Rattle.shared.specs.Extended.{flagsDeed, propertyDeed, propertiesDeed, getDeed, setDeed, recordDeed, databaseDeed, extendedDeed}
 use Rattle.shared.specs.Table.{sharedDeed}
-use Rattle.promises.specs.Legal.{Effect, Short, shows, upward, Shared, ping, id-request, engine-version, flags, delta, beep, set-flag, clear-flag, set-x10, set-led, get-database, set-database}
+use Rattle.promises.specs.Legal.{Effect, Short, shows, upward, Shared, ping, id-request, engine-version, flags, delta, beep}
+use Rattle.promises.specs.Legal.{set-flag, clear-flag, set-x10, set-led, get-database, set-database}
 use Rattle.promises.proofs.Ruled.{commandIn}
 use Rattle.promises.proofs.Brings.{Brings, short-command, long-command}
+use Rattle.promises.proofs.Told.{Told, to-anybody, to-module, to-load, to-nobody}
+use Rattle.promises.proofs.Told.{ToldLong, to-turn-on, to-turn-off, to-set-flags, to-properties, to-database, to-none, by-command}
 
 module _ (m : Module) (l s : List ℕ) where
   abbrev deed : Command → Deed
@@ -61,7 +66,8 @@ module _ (m : Module) (l s : List ℕ) where
         let long : length s ≡ 23 = eqb-true (length s) 23 (sym (by-length s w) ∙ x) in
         ap (λ (d : List ℕ). drop 5 d) (spelled-from 14 9 s (omega arith)) ∙ drop-drop 5 9 s
 
-    write-there : (k : ℕ) → isExtended s ≡ true → k < records l → dataAt s 5 ≤ 8 → writtenIfThere l k (take (dataAt s 5) (drop 5 (dataOf s))) ≡ written l k (take (dataAt s 5) (drop 14 s))
+    write-there : (k : ℕ) → isExtended s ≡ true → k < records l → dataAt s 5 ≤ 8
+        → writtenIfThere l k (take (dataAt s 5) (drop 5 (dataOf s))) ≡ written l k (take (dataAt s 5) (drop 14 s))
     write-there k x y z =
         ap (λ (b : List ℕ). writtenIfThere l k (take (dataAt s 5) b)) (data-bytes x)
         ∙ Written.legal l k (take (dataAt s 5) (drop 14 s)) y (rw length-take (omega arith))
@@ -77,13 +83,17 @@ module _ (m : Module) (l s : List ℕ) where
     shared-brings e (set-flag x b y z) =
         let t = command2Of s in
         let half : t / 2 ≡ b = omega arith in
-        rw (long-command s 0x20 x, le-leb 0x00 t (omega arith), le-leb t 0x0f (omega arith), eq-eqb (t % 2) 0 (omega arith), half) (record { done = refl; next = refl; links = refl; reply = refl })
+        rw (long-command s 0x20 x, le-leb 0x00 t (omega arith), le-leb t 0x0f (omega arith), eq-eqb (t % 2) 0 (omega arith), half)
+        (record { done = refl; next = refl; links = refl; reply = refl })
     shared-brings e (clear-flag x b y z) =
         let t = command2Of s in
         let half : t / 2 ≡ b = omega arith in
-        rw (long-command s 0x20 x, le-leb 0x00 t (omega arith), le-leb t 0x0f (omega arith), ne-eqb (t % 2) 0 (omega arith), half) (record { done = refl; next = refl; links = refl; reply = refl })
+        rw (long-command s 0x20 x, le-leb 0x00 t (omega arith), le-leb t 0x0f (omega arith), ne-eqb (t % 2) 0 (omega arith), half)
+        (record { done = refl; next = refl; links = refl; reply = refl })
     shared-brings e (set-x10 x) = rw (long-command s 0x2e (x .0), x .1, x .2) (record { done = refl; next = refl; links = refl; reply = refl })
-    shared-brings e (set-led x y z) = rw (long-command s 0x2e (x .0), x .1, x .2, le-leb 0x11 (dataAt s 3) y, le-leb (dataAt s 3) 0x7f z) (record { done = refl; next = refl; links = refl; reply = refl })
+    shared-brings e (set-led x y z) =
+        rw (long-command s 0x2e (x .0), x .1, x .2, le-leb 0x11 (dataAt s 3) y, le-leb (dataAt s 3) 0x7f z)
+        (record { done = refl; next = refl; links = refl; reply = refl })
     shared-brings e (get-database x k y n z) =
         let all : countSent l k (dataAt s 5) ≡ n = only l k (dataAt s 5) _ n (counted l k (dataAt s 5) (y .0)) z in
         rw (long-command s 0x2f (x .0), x .1, x .2, names-record k y) (record { done = refl; next = refl; links = refl; reply = rw (all, as-upward n k) })
@@ -97,9 +107,6 @@ module _ (m : Module) (l s : List ℕ) where
     other : deed ≡ Deed.Unlisted → SharedJudged deed
 
   module _ (x : isExtended s ≡ false) where
-    abbrev is : (c : ℕ) → eqb (command1Of s) c ≡ true → Short s c
-    is c e = (x, eqb-true (command1Of s) c e)
-
     told-judged : Short s 0x1f → SharedJudged (flagsTold m (command2Of s))
     unfolding flagsTold
     told-judged y =
@@ -107,29 +114,14 @@ module _ (m : Module) (l s : List ℕ) where
         (λ _. by SharedJudged (eqb (command2Of s) 0x01) (λ e. listed _ (delta y (eqb-true _ 0x01 e)))
         (λ _. other refl))
 
-    short-judged : SharedJudged (standardDeed m (requestOf s) (standardOf (command1Of s)))
-    unfolding standards
-    short-judged =
-        by Q _ (λ e. listed _ (ping (is 0x0f e)))
-        (λ _. by Q _ (λ e. listed _ (id-request (is 0x10 e)))
-        (λ _. by Q _ (λ e. listed _ (engine-version (is 0x0d e)))
-        (λ _. by Q _ (λ e. other refl)
-        (λ _. by Q _ (λ e. other refl)
-        (λ _. by Q _ (λ e. other refl)
-        (λ _. by Q _ (λ e. other refl)
-        (λ _. by Q _ (λ e. other refl)
-        (λ _. by Q _ (λ e. other refl)
-        (λ _. by Q _ (λ e. other refl)
-        (λ _. by Q _ (λ e. other refl)
-        (λ _. by Q _ (λ e. told-judged (is 0x1f e))
-        (λ _. by Q _ (λ e. other refl)
-        (λ _. by Q _ (λ e. other refl)
-        (λ _. by Q _ (λ e. listed _ (beep (is 0x30 e)))
-        (λ _. by Q _ (λ e. other refl)
-        (λ _. other refl))))))))))))))))
-      where
-        Q : Standard → Type 0
-        Q command = SharedJudged (standardDeed m (requestOf s) command)
+    short-judged : (command : Standard) → Told (command1Of s) command → SharedJudged (standardDeed m (requestOf s) command)
+    short-judged _ (to-anybody OpenCommand.Ping e) = listed _ (ping (x, e))
+    short-judged _ (to-anybody OpenCommand.IdRequest e) = listed _ (id-request (x, e))
+    short-judged _ (to-module ModuleCommand.EngineVersion e) = listed _ (engine-version (x, e))
+    short-judged _ (to-module ModuleCommand.ReadFlags e) = told-judged (x, e)
+    short-judged _ (to-module ModuleCommand.Beep e) = listed _ (beep (x, e))
+    short-judged _ (to-load command e) = other refl
+    short-judged _ to-nobody = other refl
 
   module _ (x : isExtended s ≡ true) where
     flag-judged : command1Of s ≡ 0x20 → SharedJudged (flagsDeed m (command2Of s))
@@ -144,7 +136,8 @@ module _ (m : Module) (l s : List ℕ) where
       unfolding propertyDeed
       property-judged z =
           by SharedJudged _ (λ e. listed _ (set-x10 ((x, y), z, eqb-true _ 0x04 e)))
-          (λ _. by SharedJudged _ (λ e. by-limits SharedJudged 0x11 0x7f (dataAt s 3) _ (λ a b. listed _ (set-led ((x, y), z, eqb-true _ 0x07 e) a b)) (other refl))
+          (λ _. by SharedJudged _ (λ e. by-limits SharedJudged 0x11 0x7f (dataAt s 3) _
+          (λ a b. listed _ (set-led ((x, y), z, eqb-true _ 0x07 e) a b)) (other refl))
           (λ _. other refl))
 
       properties-judged : SharedJudged (propertiesDeed (requestOf s) (dataOf s))
@@ -159,7 +152,9 @@ module _ (m : Module) (l s : List ℕ) where
       get-judged z w Place.Illegal e = other refl
 
       set-judged : command2Of s ≡ 0x00 → dataAt s 2 ≡ 0x02 → (place : Place) → placeOf (records l) address ≡ place → SharedJudged (setDeed (dataOf s) place)
-      set-judged z w (Place.Record k) e = by-limits SharedJudged 1 8 (dataAt s 5) _ (λ a b. listed _ (set-database ((x, y), z, w) k (Named.named (records l) address k e) a b)) (other refl)
+      set-judged z w (Place.Record k) e =
+          by-limits SharedJudged 1 8 (dataAt s 5) _
+          (λ a b. listed _ (set-database ((x, y), z, w) k (Named.named (records l) address k e) a b)) (other refl)
       set-judged z w Place.Illegal e = other refl
 
       record-judged : command2Of s ≡ 0x00 → SharedJudged (recordDeed (dataOf s) (records l))
@@ -173,19 +168,13 @@ module _ (m : Module) (l s : List ℕ) where
       unfolding databaseDeed
       database-judged = by SharedJudged (eqb (command2Of s) 0x00) (λ e. record-judged (eqb-true _ 0x00 e)) (λ _. other refl)
 
-    long-judged : SharedJudged (extendedDeed m (requestOf s) (dataOf s) (records l) (extendedOf (command1Of s)))
-    unfolding extendeds
-    long-judged =
-        by Q _ (λ e. flag-judged (eqb-true _ 0x20 e))
-        (λ _. by Q _ (λ e. properties-judged (eqb-true _ 0x2e e))
-        (λ _. by Q _ (λ e. database-judged (eqb-true _ 0x2f e))
-        (λ _. other refl)))
-      where
-        Q : Extended → Type 0
-        Q command = SharedJudged (extendedDeed m (requestOf s) (dataOf s) (records l) command)
+    long-judged : (command : Extended) → ToldLong (command1Of s) command → SharedJudged (extendedDeed m (requestOf s) (dataOf s) (records l) command)
+    long-judged _ (to-turn-on e) = other refl
+    long-judged _ (to-turn-off e) = other refl
+    long-judged _ (to-set-flags e) = flag-judged e
+    long-judged _ (to-properties e) = properties-judged e
+    long-judged _ (to-database e) = database-judged e
+    long-judged _ to-none = other refl
 
   pub shared-judged : SharedJudged (deed (commandIn s))
-  shared-judged = by Q (isExtended s) long-judged short-judged
-    where
-      Q : Command → Type 0
-      Q command = SharedJudged (deed command)
+  shared-judged = by-command s (λ (command : Command). SharedJudged (deed command)) long-judged short-judged

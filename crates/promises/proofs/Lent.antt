@@ -33,7 +33,8 @@ always-strikes-lent s room (message ∷ more) = go (linked-or-not (s .links) (fr
     go (inr h) rest = record { kept = rest .kept; said = rest .said; struck = strike h (rest .struck) }
 
 -- whatever stands in a room of the same length
-by-length : (s : State) (room other : List ℕ) (messages kept : List (List ℕ)) (said : List Said) → StruckLent s room messages kept said → length other ≡ length room
+by-length : (s : State) (room other : List ℕ) (messages kept : List (List ℕ)) (said : List Said)
+    → StruckLent s room messages kept said → length other ≡ length room
     → (lentOf s other kept ≡ said) × (lentEnd s other kept ≡ lentEnd s room messages)
 unfolding lentOf lentEnd
 by-length s room other messages kept said none e = (refl, refl)
@@ -43,7 +44,8 @@ by-length s room other messages kept said (keep {message = message} {more = more
     let here = room-alike s message other room e in
     let left = ap (λ (x : Said). x .left) here in
     let r = by-length (leftBy t) (t .room) (u .room) more others theirs struck (room-kept s message other ∙ e ∙ sym (room-kept s message room)) in
-    (ap (λ (x : Said). x ∷ lentOf (x .left) (u .room) others) here ∙ ap (λ (z : List Said). saidOf t ∷ z) (r .0), ap (λ (x : State). lentEnd x (u .room) others) left ∙ r .1)
+    let first = ap (λ (x : Said). x ∷ lentOf (x .left) (u .room) others) here in
+    (first ∙ ap (λ (z : List Said). saidOf t ∷ z) (r .0), ap (λ (x : State). lentEnd x (u .room) others) left ∙ r .1)
 by-length s room other messages kept said (strike {message = message} {more = more} h struck) e =
     let t = lentCall s room message in
     let r = by-length (leftBy t) (t .room) other more kept said struck (e ∙ sym (room-kept s message room)) in

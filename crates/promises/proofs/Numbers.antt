@@ -25,7 +25,6 @@ use Rattle.results.specs.Number.{numberOf}
 use Rattle.module.specs.declared.state.Module.{Module}
 use Rattle.module.specs.declared.deed.Deed.{Deed}
 use Rattle.module.specs.Plan.{unlinked, unlisted, deedPlan}
-use Rattle.decide.specs.Groups.{cleanupBy}
 use Rattle.decide.specs.Ruling.{silence, rulingBy, rulingOf}
 use Rattle.decide.proofs.Sender.{stranger-plan}
 use Rattle.device.specs.Step.{stepOf}
@@ -34,8 +33,8 @@ use Rattle.promises.specs.Demand3.{Stranger, pingOrId}
 use Rattle.promises.specs.Legal.{Effect}
 use Rattle.promises.specs.LegalAny.{Legal}
 use Rattle.promises.specs.Responders.{NoResponder}
-use Rattle.promises.specs.Groups.{GroupCommand1, Unconcerned, unfit-to, unfit-command, no-responder}
-use Rattle.promises.specs.Numbers.{When2, When1, When3, When4, When8, When6, not-linked, no-record, When7, not-listed, no-group-command}
+use Rattle.promises.specs.Groups.{NoRow, HasRow, GroupCommand1, Unconcerned, unfit-to, unfit-command, no-responder, unfit-record}
+use Rattle.promises.specs.Numbers.{When2, When1, When3, When4, When8, When6, not-linked, no-record, When7, not-listed, no-group-command, no-group-row}
 use Rattle.promises.specs.Numbers.{direct, cleanup, broadcast, Sound, IsCarriedOut, Line, two, one, three, four, eight, six, seven, zero}
 use Rattle.promises.specs.Numbers.{Given, fits, five, NumbersGiven, NoOther, LinesHold, OneLine, ElseCarriedOut}
 use Rattle.promises.proofs.Ruled.{commandIn, deedIn, ruled, ruled-linked}
@@ -43,9 +42,9 @@ use Rattle.promises.proofs.Brings.{Comes, as-done, refuses, ends, ends-
 use Rattle.promises.proofs.Legal.{Judged, is-listed, is-other, judged, fulfils}
 use Rattle.promises.proofs.Stranger.{exempt}
 use Rattle.promises.proofs.Anybody.{ruled-exempt}
-use Rattle.promises.proofs.Responders.{SomeFirst, first-or-none}
-use Rattle.promises.proofs.Groups.{group-command, alters, unlisted-deed, each-has-row, broadcast-brings, cleanup-brings}
-use Rattle.promises.proofs.Groups.{calls, calling, uncalled, ruled-first, ruled-unconcerned, ruled-responder, ruled-no-responder}
+use Rattle.promises.proofs.Responders.{one-decides, SomeFirst, first-or-none}
+use Rattle.promises.proofs.Groups.{alters, row-or-none, no-command-no-row, broadcast-brings, cleanup-brings}
+use Rattle.promises.proofs.Groups.{calls, calling, uncalled, ruled-first, ruled-unconcerned, ruled-responder, ruled-no-row, ruled-no-responder}
 use Rattle.promises.proofs.Whens.{holds, apart, is-fit, is-whole, is-ours, is-unfit, is-unwhole, is-foreign, fit, well-formed}
 use Rattle.promises.proofs.Whens.{Standing, at-2, at-1, at-3, at-4, as-direct, as-cleanup, as-broadcast, standing}
 use Rattle.promises.proofs.Demand1.{numbered}
@@ -97,13 +96,11 @@ module _ (m : Module) (l s : List ℕ) where
       where
         go : SomeFirst l (fromOf s) (command2Of s) ⊎ NoResponder l (fromOf s) (command2Of s)
             → rulingOf m l s .plan ≡ unlisted ReplyType.CleanupNak (requestOf s)
-        go (inl r) =
-            ruled-responder m l s (fit m l s h) (well-formed m l s h) c (r .place) (r .decides)
-            ∙ ap (cleanupBy (requestOf s)) (unlisted-deed m s (linkOf (recordAt l (r .place))) x)
+        go (inl r) = ruled-no-row m l s (fit m l s h) (well-formed m l s h) c (r .place) (r .decides) (no-command-no-row m s (linkOf (recordAt l (r .place))) x)
         go (inr nobody) = absurd (n (no-record c nobody))
 
     -- a broadcast to which 8 does not apply calls a group
-    is-call : isBroadcast s ≡ true → ¬ When8 l s → calls s (groupCommandOf (command1Of s)) ≡ true
+    is-call : isBroadcast s ≡ true → ¬ When8 m l s → calls s (groupCommandOf (command1Of s)) ≡ true
     is-call b n = holds (calls s (groupCommandOf (command1Of s))) (λ e. (b, uncalled s unfit-to unfit-command e)) n
 
   -- the type of the NAK
@@ -127,6 +124,8 @@ module _ (m : Module) (l s : List ℕ) where
       rw (ruled-no-responder m l s (fit m l s h) (well-formed m l s h) c x, nak-cleanup c 0xff) (refuses m l s Outcome.NotLinked _)
   comes n e (seven h u a (not-listed d x)) = rw (ruled-unlisted h d a x, nak-direct d 0xfb) (refuses m l s Outcome.Unlisted _)
   comes n e (seven h u a (no-group-command c x)) = rw (ruled-no-command h c a x, nak-cleanup c 0xfb) (refuses m l s Outcome.Unlisted _)
+  comes n e (seven h u a (no-group-row k c r x)) =
+      rw (ruled-no-row m l s (fit m l s h) (well-formed m l s h) c k r x, nak-cleanup c 0xfb) (refuses m l s Outcome.Unlisted _)
   comes n e (zero h u a b _ (direct _ d x)) = rw (looked-at h d a) (as-done m l s e _ (well-formed m l s h) (fulfils m l s (well-formed m l s h) e x))
   comes n e (zero h u a b _ (cleanup k next c r x)) =
       let w = well-formed m l s h in
@@ -151,7 +150,7 @@ module _ (m : Module) (l s : List ℕ) where
       looked-line : ¬ When6 l s → HasLine
       looked-line n = go (judged m l s)
         where
-          no-8 : ¬ When8 l s
+          no-8 : ¬ When8 m l s
           no-8 x = apart s 0 6 refl d (x .0)
 
           -- what comes to a deed that is not listed is no row
@@ -164,6 +163,7 @@ module _ (m : Module) (l s : List ℕ) where
               no-7 : ¬ When7 m l s
               no-7 (not-listed q none) = none e x
               no-7 (no-group-command c q) = apart s 0 2 refl d c
+              no-7 (no-group-row k c r q) = apart s 0 2 refl d c
           go (is-other p) = on (seven h no-8 n (not-listed d (no-row p)))
 
       direct-line : HasLine
@@ -181,34 +181,43 @@ module _ (m : Module) (l s : List ℕ) where
 
     module _ (c : isCleanup s ≡ true) where
       cleanup-line : HasLine
-      cleanup-line = go (first-or-none l (fromOf s) (command2Of s)) (group-command s)
+      cleanup-line = go (first-or-none l (fromOf s) (command2Of s))
         where
-          no-8 : ¬ When8 l s
+          no-8 : ¬ When8 m l s
           no-8 x = apart s 2 6 refl c (x .0)
 
           no-6 : SomeFirst l (fromOf s) (command2Of s) → ¬ When6 l s
           no-6 r (not-linked d p x) = apart s 2 0 refl c d
           no-6 r (no-record q x) = x (r .place) (r .decides .responder)
 
-          no-7 : GroupCommand1 s → ¬ When7 m l s
-          no-7 g (not-listed d x) = apart s 2 0 refl c d
-          no-7 g (no-group-command q x) = x g
+          no-7 : (r : SomeFirst l (fromOf s) (command2Of s)) → HasRow m s (linkOf (recordAt l (r .place))) → ¬ When7 m l s
+          no-7 r x (not-listed d q) = apart s 2 0 refl c d
+          no-7 r x (no-group-command q g) = no-command-no-row m s _ g (x .next) (x .row)
+          no-7 r x (no-group-row k q f none) =
+              let y = one-decides l (fromOf s) (command2Of s) (r .place) k (r .decides) f (HasRow m s) x in
+              none (y .next) (y .row)
 
-          go : SomeFirst l (fromOf s) (command2Of s) ⊎ NoResponder l (fromOf s) (command2Of s) → GroupCommand1 s ⊎ (¬ GroupCommand1 s) → HasLine
-          go (inr nobody) g = on (six h no-8 (no-record c nobody))
-          go (inl r) (inr g) = on (seven h no-8 (no-6 r) (no-group-command c g))
-          go (inl r) (inl g) =
-              let x = each-has-row m s (linkOf (recordAt l (r .place))) g in
-              on (zero h no-8 (no-6 r) (no-7 g) _ (cleanup (r .place) (x .next) c (r .decides) (x .row)))
+          decided : (r : SomeFirst l (fromOf s) (command2Of s))
+              → HasRow m s (linkOf (recordAt l (r .place))) ⊎ NoRow m s (linkOf (recordAt l (r .place))) → HasLine
+          decided r (inl x) = on (zero h no-8 (no-6 r) (no-7 r x) _ (cleanup (r .place) (x .next) c (r .decides) (x .row)))
+          decided r (inr none) = on (seven h no-8 (no-6 r) (no-group-row (r .place) c (r .decides) none))
+
+          go : SomeFirst l (fromOf s) (command2Of s) ⊎ NoResponder l (fromOf s) (command2Of s) → HasLine
+          go (inl r) = decided r (row-or-none m s (linkOf (recordAt l (r .place))))
+          go (inr nobody) = on (six h no-8 (no-record c nobody))
 
     module _ (b : isBroadcast s ≡ true) where
       broadcast-line : HasLine
       broadcast-line = go (calls s (groupCommandOf (command1Of s))) refl (first-or-none l (fromOf s) (toOf s .low))
         where
-          no-8 : calls s (groupCommandOf (command1Of s)) ≡ true → SomeFirst l (fromOf s) (toOf s .low) → ¬ Unconcerned l s
-          no-8 e r (unfit-to x) = x (calling s e .0)
-          no-8 e r (unfit-command x) = x (calling s e .1)
-          no-8 e r (no-responder x) = x (r .place) (r .decides .responder)
+          no-8 : calls s (groupCommandOf (command1Of s)) ≡ true → (r : SomeFirst l (fromOf s) (toOf s .low))
+              → HasRow m s (linkOf (recordAt l (r .place))) → ¬ Unconcerned m l s
+          no-8 e r x (unfit-to q) = q (calling s e .0)
+          no-8 e r x (unfit-command q) = q (calling s e .1)
+          no-8 e r x (no-responder q) = q (r .place) (r .decides .responder)
+          no-8 e r x (unfit-record k f none) =
+              let y = one-decides l (fromOf s) (toOf s .low) (r .place) k (r .decides) f (HasRow m s) x in
+              none (y .next) (y .row)
 
           no-6 : ¬ When6 l s
           no-6 (not-linked d p x) = apart s 6 0 refl b d
@@ -217,14 +226,18 @@ module _ (m : Module) (l s : List ℕ) where
           no-7 : ¬ When7 m l s
           no-7 (not-listed d x) = apart s 6 0 refl b d
           no-7 (no-group-command c x) = apart s 6 2 refl b c
+          no-7 (no-group-row k c r x) = apart s 6 2 refl b c
+
+          decided : calls s (groupCommandOf (command1Of s)) ≡ true → (r : SomeFirst l (fromOf s) (toOf s .low))
+              → HasRow m s (linkOf (recordAt l (r .place))) ⊎ NoRow m s (linkOf (recordAt l (r .place))) → HasLine
+          decided e r (inl x) = on (zero h (λ y. no-8 e r x (y .1)) no-6 no-7 _ (broadcast (r .place) (x .next) b (r .decides) (x .row)))
+          decided e r (inr none) = on (eight h (b, unfit-record (r .place) (r .decides) none))
 
           go : (t : Bool) → calls s (groupCommandOf (command1Of s)) ≡ t
               → SomeFirst l (fromOf s) (toOf s .low) ⊎ NoResponder l (fromOf s) (toOf s .low) → HasLine
           go false e x = on (eight h (b, uncalled s unfit-to unfit-command e))
           go true e (inr nobody) = on (eight h (b, no-responder nobody))
-          go true e (inl r) =
-              let x = each-has-row m s (linkOf (recordAt l (r .place))) (calling s e .1) in
-              on (zero h (λ y. no-8 e r (y .1)) no-6 no-7 _ (broadcast (r .place) (x .next) b (r .decides) (x .row)))
+          go true e (inl r) = decided e r (row-or-none m s (linkOf (recordAt l (r .place))))
 
   pub has-line : HasLine
   has-line = go (standing m l s)

@@ -23,7 +23,13 @@ stepping : (m : Module) (l s room : List ℕ) → Only (λ (d : Called). StepPro
 stepping m l s room x y p q =
     λ i.
     record {
-      answer = record { outcome = by-value _ _ _ (p .outcome) (q .outcome) i; length = by-value _ _ _ (p .sent) (q .sent) i; read = by-value _ _ _ (p .read) (q .read) i; next = by-value _ _ _ (p .next) (q .next) i };
+      answer =
+          record {
+            outcome = by-value _ _ _ (p .outcome) (q .outcome) i;
+            length = by-value _ _ _ (p .sent) (q .sent) i;
+            read = by-value _ _ _ (p .read) (q .read) i;
+            next = by-value _ _ _ (p .next) (q .next) i;
+          };
       links = by-value _ _ _ (p .memory) (q .memory) i;
       room = by-value _ _ _ (p .room-after) (q .room-after) i;
     }
@@ -69,9 +75,11 @@ each-once =
       reply-send = sending;
       results-number = λ _. by-value _;
       module-fresh-dimmer = λ _. by-value _;
+      module-fresh-outlet = λ _. by-value _;
       module-apply = λ _ _. by-value _;
       module-acked = λ _. by-value _;
       module-telling = λ _. by-value _;
+      module-showing = λ _. by-value _;
       module-limited = λ _ _ _ _. by-value _;
       module-headed = λ _ _ _ _. by-value _;
       module-done = λ _ _. by-value _;
@@ -83,6 +91,8 @@ each-once =
       shared-shared-deed = λ _ _ _ _ _. by-value _;
       dimmer-entry-of = λ _ _ _ _ _. by-value _;
       dimmer-group-deed = λ _ _ _. by-value _;
+      outlet-entry-of = λ _ _ _ _ _. by-value _;
+      outlet-group-deed = λ _ _ _. by-value _;
       decide-ruling-by = λ _ _ _. by-value _;
       device-step = stepping;
       modem-seek = λ _. by-value _;

@@ -57,6 +57,10 @@ module _ (l : List ℕ) (a : Address) (g : ℕ) where
         go f (ended j e no-match) = refl
         go f (exhausted e no-match) = refl
 
+  -- one record decides
+  pub one-decides : (j k : ℕ) → FirstResponder l a g j → FirstResponder l a g k → (P : Link → Type 0) → P (linkOf (recordAt l j)) → P (linkOf (recordAt l k))
+  one-decides j k x y P p = rw (one-first (Responder l a g) j k (x .responder) (x .first) (y .responder) (y .first)) at p
+
   pub record SomeFirst : Type 0 where
     pub place : ℕ
     pub decides : FirstResponder l a g place

@@ -12,7 +12,9 @@ use Rattle.basis.proofs.Table.{passed}
 use Rattle.basis.proofs.Choice.{either, beside}
 use Rattle.basis.proofs.Tests.{clash}
 use Rattle.wire.specs.declared.command.Standard.{Standard}
+use Rattle.wire.specs.declared.request.Request.{Request}
 use Rattle.wire.specs.declared.command.OpenCommand.{OpenCommand}
+use Rattle.wire.specs.declared.command.Command.{Command}
 use Rattle.wire.specs.declared.kind.MessageKind.{MessageKind}
 use Rattle.wire.specs.declared.kind.Message.{Message}
 use Rattle.wire.specs.Bytes.{fromOf, toOf, command1Of, requestOf, dataOf, isExtended, isWhole}
@@ -25,12 +27,15 @@ use Rattle.reply.specs.declared.due.ReplyType.{ReplyType}
 use Rattle.reply.specs.Message.{standard, headOf}
 use Rattle.reply.specs.Reply.{replyOf}
 use Rattle.module.specs.declared.state.Identity.{Identity}
+use Rattle.module.specs.declared.state.Load.{Load}
 use Rattle.module.specs.declared.state.Module.{Module}
 use Rattle.module.specs.declared.change.Change.{Change}
+use Rattle.module.specs.declared.deed.Entry.{Entry}
 use Rattle.module.specs.declared.plan.Plan.{Plan}
 use Rattle.module.specs.Plan.{idOf, ackTo, deedPlan}
 use Rattle.decide.specs.declared.rule.Ruling.{Ruling}
-use Rattle.decide.specs.Dispatch.{deedOf}
+use Rattle.shared.specs.Standard.{openDeed}
+use Rattle.decide.specs.Dispatch.{entryBy, deedOf}
 use Rattle.decide.specs.Decide.{isOpen, needsNoLink}
 use Rattle.decide.specs.Ruling.{heardBy, kindRuling, readRuling, rulingBy, rulingOf}
 use Rattle.decide.proofs.Sender.{exempt-plan, stranger-plan, stranger-cleanup, stranger-broadcast}
@@ -83,7 +88,17 @@ pub record Quiet (m : Module) (l : List ℕ) (p : Plan) (bytes : List ℕ) : Typ
   pub nothing : p .change ≡ Change.Nothing
   pub sent : replyOf (m .identity .address) l (p .due) ≡ bytes
 
+-- every kind leaves a ping and an ID request as they are
+open-entry : (m : Module) (load : Load) (r : Request) (d : List ℕ) (command : OpenCommand)
+    → entryBy m load r d (Command.Standard (Standard.Open command)) ≡ Entry.Shared
+open-entry m (Load.Dimmer lamp) r d command = refl
+open-entry m (Load.Outlet sockets) r d command = refl
+
 module _ (m : Module) (l s : List ℕ) (stranger : Stranger l s) where
+  open-deed : (d : List ℕ) (n : ℕ) (command : OpenCommand) → standardOf (command1Of s) ≡ Standard.Open command
+      → deedOf m (requestOf s) d n (Command.Standard (standardOf (command1Of s))) ≡ openDeed command
+  open-deed d n command is = rw (is, open-entry m (m .load) (requestOf s) d command)
+
   opens : (d : List ℕ) (n : ℕ) → pingOrId s ≡ true
       → Quiet m l (deedPlan m (requestOf s) (deedOf m (requestOf s) d n (commandIn s))) (openBytes (m .identity) s (eqb (command1Of s) 0x0f))
   unfolding choose standards
@@ -92,8 +107,8 @@ module _ (m : Module) (l s : List ℕ) (stranger : Stranger l s) where
       go : (long ping : Bool) → eqb (command1Of s) 0x0f ≡ ping → not long && (ping || eqb (command1Of s) 0x10) ≡ true
           → Quiet m l (deedPlan m (requestOf s) (deedOf m (requestOf s) d n (commandOf long (command1Of s)))) (openBytes (m .identity) s ping)
       go true ping q e = clash refl (sym e)
-      go false true q e = rw (eqb-true (command1Of s) 0x0f q) (record { nothing = refl; sent = refl })
-      go false false q e = rw (eqb-true (command1Of s) 0x10 e) (record { nothing = refl; sent = refl })
+      go false true q e = rw (open-deed d n OpenCommand.Ping (rw (eqb-true (command1Of s) 0x0f q))) (record { nothing = refl; sent = refl })
+      go false false q e = rw (open-deed d n OpenCommand.IdRequest (rw (eqb-true (command1Of s) 0x10 e))) (record { nothing = refl; sent = refl })
 
   module _ (d : List ℕ) where
     abbrev QuietKind : MessageKind → List ℕ → Type 0
@@ -106,7 +121,8 @@ module _ (m : Module) (l s : List ℕ) (stranger : Stranger l s) where
     to-direct true e = rw (exempt-plan m l (requestOf s) d (records l) (commandIn s) (exempt s ∙ e)) (opens d (records l) e)
     to-direct false e = rw (stranger-plan m l (requestOf s) d (records l) (commandIn s) stranger (exempt s ∙ e)) (record { nothing = refl; sent = refl })
 
-    to-cleanup : QuietKind (MessageKind.Cleanup (requestOf s) (groupCommandOf (command1Of s))) (standard (m .identity .address) (fromOf s) ReplyType.CleanupNak (command1Of s) 0xff)
+    to-cleanup : QuietKind (MessageKind.Cleanup (requestOf s) (groupCommandOf (command1Of s)))
+        (standard (m .identity .address) (fromOf s) ReplyType.CleanupNak (command1Of s) 0xff)
     to-cleanup = rw (stranger-cleanup m l (requestOf s) stranger (groupCommandOf (command1Of s))) (record { nothing = refl; sent = refl })
 
     to-broadcast : QuietKind (MessageKind.Broadcast (fromOf s) (toOf s) (groupCommandOf (command1Of s))) []

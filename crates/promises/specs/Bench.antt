@@ -2,21 +2,21 @@
 use Prim.Native.Nat.{ℕ}
 use mathlib.Core.List.{List, [], _∷_, _++_}
 use lib.ListN.{replicate}
+use Rattle.module.specs.declared.state.Load.{Load}
 use Rattle.module.specs.declared.state.Module.{Module}
 use Rattle.module.specs.Change.{withLoad}
-use Rattle.dimmer.specs.Lamp
 use Rattle.modem.specs.Program.{start}
 
 -- a fresh module of document 01's identity
 unfoldable pub fresh : Module
 fresh = start
 
--- the same with one value set; the others that an example alters are set by module
+-- the same with one value of its lamp set; the others that an example alters are set by module
 unfoldable pub withLevel : ℕ → Module → Module
-withLevel x m = withLoad (Lamp.withLevel x (m .load)) m
+withLevel x m = withLoad (Load.Dimmer (record { level = x; ramp = 0x1f; «on_level» = 0xff })) m
 
 unfoldable pub withRamp : ℕ → Module → Module
-withRamp x m = withLoad (Lamp.withRamp x (m .load)) m
+withRamp x m = withLoad (Load.Dimmer (record { level = 0x00; ramp = x; «on_level» = 0xff })) m
 
 unfoldable pub us : List ℕ
 us = 0x00 ∷ 0x10 ∷ 0x3a ∷ []

@@ -33,7 +33,7 @@ NakExactly =
     length (dueTo m l s) ≤ length room →
     (stepOf m l s room .reply ≡ standard (m .identity .address) (fromOf s) ReplyType.Nak (command1Of s) 0xff) ↔ ((pingOrId s ≡ false) × Stranger l s)
 
--- to a stranger of both memories two modules of equal identity send equal bytes, whatever the message
+-- to a stranger of both memories two modules of equal identity, of one kind or of two, send equal bytes, whatever the message
 abbrev pub LearnsNothing : Type 0
 LearnsNothing =
     (m n : Module) (l k s room : List ℕ) → m .identity ≡ n .identity → isFit l ≡ true → isFit k ≡ true → Stranger l s → Stranger k s →

@@ -3,6 +3,7 @@ use Prim.Native.Nat.{ℕ, _≤_}
 use mathlib.Core.Path.{_≡_}
 use mathlib.Core.Bool.{true}
 use mathlib.Core.List.{List, []}
+use mathlib.Core.Logic.{_⊎_}
 use lib.ListN.{length}
 use Rattle.wire.specs.Bytes.{fromOf, toOf, command1Of, command2Of}
 use Rattle.wire.specs.Kinds.{isCleanup, isBroadcast}
@@ -12,15 +13,24 @@ use Rattle.links.specs.Record.{isFit, recordAt, linkOf}
 use Rattle.reply.specs.declared.due.ReplyType.{ReplyType}
 use Rattle.reply.specs.Message.{standard}
 use Rattle.results.specs.Number.{numberOf}
+use Rattle.module.specs.declared.state.Lamp.{Lamp}
+use Rattle.module.specs.declared.state.Sockets.{Sockets}
+use Rattle.module.specs.declared.state.Load.{Load}
 use Rattle.module.specs.declared.state.Module.{Module}
 use Rattle.device.specs.Step.{stepOf}
 use Rattle.promises.specs.Legal.{Effect, Taken}
 use Rattle.promises.specs.Responders.{Responder, FirstResponder, NoResponder}
 use Rattle.promises.specs.GroupsDimmer.{GroupDimmer}
+use Rattle.promises.specs.GroupsOutlet.{GroupOutlet}
 
 -- what the deciding record makes of a module, by its kind
 pub data GroupLegal (m : Module) (s : List ℕ) (decides : Link) (next : Module) : Type 0 where
-  dimmer : GroupDimmer m (m .load) s decides next → GroupLegal m s decides next
+  dimmer : (lamp : Lamp) → m .load ≡ Load.Dimmer lamp → GroupDimmer m lamp s decides next → GroupLegal m s decides next
+  outlet : (sockets : Sockets) → m .load ≡ Load.Outlet sockets → GroupOutlet m sockets s decides next → GroupLegal m s decides next
+
+-- it makes nothing of it: the record fits no row of the module's kind
+abbrev pub NoRow : Module → List ℕ → Link → Type 0
+NoRow m s decides = (next : Module) → ¬ GroupLegal m s decides next
 
 -- a broadcast is never answered; a cleanup is ACKed with both commands
 abbrev pub broadcastEffect : List ℕ → Module → Effect
@@ -39,10 +49,12 @@ abbrev pub GroupCommand1 : List ℕ → Type 0
 GroupCommand1 s = (0x11 ≤ command1Of s) × (command1Of s ≤ 0x14)
 
 -- a group broadcast that concerns us not
-pub data Unconcerned (l s : List ℕ) : Type 0 where
-  unfit-to : ¬ ToGroup s → Unconcerned l s
-  unfit-command : ¬ GroupCommand1 s → Unconcerned l s
-  no-responder : NoResponder l (fromOf s) (toOf s .low) → Unconcerned l s
+pub data Unconcerned (m : Module) (l s : List ℕ) : Type 0 where
+  unfit-to : ¬ ToGroup s → Unconcerned m l s
+  unfit-command : ¬ GroupCommand1 s → Unconcerned m l s
+  no-responder : NoResponder l (fromOf s) (toOf s .low) → Unconcerned m l s
+  -- the first responder record fits no row, even where a later one would
+  unfit-record : (k : ℕ) → FirstResponder l (fromOf s) (toOf s .low) k → NoRow m s (linkOf (recordAt l k)) → Unconcerned m l s
 
 -- of well-formed messages, to a module with fit link memory
 module _ (m : Module) (l s room : List ℕ) where
@@ -56,7 +68,7 @@ module _ (m : Module) (l s room : List ℕ) where
   -- else 8
   abbrev pub BroadcastElse : Type 0
   BroadcastElse =
-      isFit l ≡ true → wellFormed s (m .identity .address) ≡ true → isBroadcast s ≡ true → Unconcerned l s →
+      isFit l ≡ true → wellFormed s (m .identity .address) ≡ true → isBroadcast s ≡ true → Unconcerned m l s →
       numberOf (stepOf m l s room .outcome) ≡ 8
 
   -- a cleanup: group in Command 2
@@ -78,10 +90,33 @@ module _ (m : Module) (l s room : List ℕ) where
       isFit l ≡ true → wellFormed s (m .identity .address) ≡ true → isCleanup s ≡ true → 9 ≤ length room →
       (k : ℕ) → Responder l (fromOf s) (command2Of s) k → ¬ GroupCommand1 s → numberOf (stepOf m l s room .outcome) ≡ 7
 
--- each Command 1 in 11 to 14 has its row
+  -- and so does a first responder record that fits no row, even where a later one would
+  abbrev pub CleanupUnfit : Type 0
+  CleanupUnfit =
+      isFit l ≡ true → wellFormed s (m .identity .address) ≡ true → isCleanup s ≡ true → 9 ≤ length room →
+      (k : ℕ) → FirstResponder l (fromOf s) (command2Of s) k → NoRow m s (linkOf (recordAt l k)) → numberOf (stepOf m l s room .outcome) ≡ 7
+
+-- the record fits a row
 pub record HasRow (m : Module) (s : List ℕ) (decides : Link) : Type 0 where
   pub next : Module
   pub row : GroupLegal m s decides next
 
+-- on a dimmer each Command 1 in 11 to 14 has its row
 abbrev pub EachHasRow : Type 0
-EachHasRow = (m : Module) (s : List ℕ) (decides : Link) → GroupCommand1 s → HasRow m s decides
+EachHasRow = (m : Module) (lamp : Lamp) (s : List ℕ) (decides : Link) → m .load ≡ Load.Dimmer lamp → GroupCommand1 s → HasRow m s decides
+
+-- on an outlet it has where the record's D3 is 01 or 02
+abbrev pub SocketHasRow : Type 0
+SocketHasRow =
+    (m : Module) (sockets : Sockets) (s : List ℕ) (decides : Link) → m .load ≡ Load.Outlet sockets → GroupCommand1 s →
+    (decides .d3 ≡ 0x01) ⊎ (decides .d3 ≡ 0x02) → HasRow m s decides
+
+-- and else has none: a cleanup then gives 7 and a broadcast 8
+abbrev pub NoSocketNoRow : Type 0
+NoSocketNoRow =
+    (m : Module) (sockets : Sockets) (s : List ℕ) (decides : Link) → m .load ≡ Load.Outlet sockets →
+    ¬ (decides .d3 ≡ 0x01) → ¬ (decides .d3 ≡ 0x02) → NoRow m s decides
+
+-- outside 11 to 14 there is none on any kind
+abbrev pub NoCommandNoRow : Type 0
+NoCommandNoRow = (m : Module) (s : List ℕ) (decides : Link) → ¬ GroupCommand1 s → NoRow m s decides

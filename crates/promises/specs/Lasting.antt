@@ -1,4 +1,4 @@
--- What lasts: who the module is, what an image holds, and what a write leaves ("The module we simulate", "Link memory").
+-- What lasts: who the module is and of what kind, what an image holds, and what a write leaves ("The module we simulate", "Link memory").
 use Prim.Native.Nat.{ℕ, _+_, _≤_}
 use mathlib.Core.Path.{_≡_}
 use mathlib.Core.List.{List}
@@ -10,12 +10,17 @@ use Rattle.links.specs.Record.{records, startOf, recordAt}
 use Rattle.links.specs.Live.{LinkedOf, Linked}
 use Rattle.links.specs.Write.{written, afterWrite}
 use Rattle.module.specs.declared.state.Module.{Module}
+use Rattle.module.specs.Module.{kindOf}
 use Rattle.device.specs.Step.{stepOf}
 use Rattle.embed.specs.Image.{moduleOf, imageOf}
 
 -- no message alters who the module is: address, category, subcategory, firmware and revision stay
 abbrev pub SameIdentity : Type 0
 SameIdentity = (m : Module) (l s room : List ℕ) → stepOf m l s room .next .identity ≡ m .identity
+
+-- nor of what kind it is
+abbrev pub SameKind : Type 0
+SameKind = (m : Module) (l s room : List ℕ) → kindOf (stepOf m l s room .next .load) ≡ kindOf (m .load)
 
 -- an image holds the whole module: what one call leaves is what the next one finds
 abbrev pub WholeModule : Type 0

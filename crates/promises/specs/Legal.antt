@@ -58,6 +58,12 @@ module _ (m : Module) (s : List ℕ) where
       standard (m .identity .address) (record { high = m .identity .category; middle = m .identity .subcategory; low = m .identity .firmware })
       ReplyType.IdBroadcast 0x01 (m .identity .revision)
 
+  -- Data 1 as sent, 01, 00, 00, house, unit, ramp, on level, LED, 00, 01, 00, 00, 00
+  abbrev pub properties : ℕ → ℕ → List ℕ
+  properties ramp onLevel =
+      extended (m .identity .address) (fromOf s) 0x2e
+      (dataAt s 1 ∷ 0x01 ∷ 0x00 ∷ 0x00 ∷ m .house ∷ m .unit ∷ ramp ∷ onLevel ∷ m .led ∷ 0x00 ∷ 0x01 ∷ 0x00 ∷ 0x00 ∷ 0x00 ∷ [])
+
 -- records of link memory l
 module _ (m : Module) (l s : List ℕ) where
   -- the address that names record k

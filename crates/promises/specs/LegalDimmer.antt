@@ -1,25 +1,23 @@
 -- The legal direct commands that are a dimmer's own, each with its effect and its reply.
 use Prim.Native.Nat.{ℕ, _+_, _-_, _*_, _/_, _≤_, min}
 use mathlib.Core.Path.{_≡_}
-use mathlib.Core.List.{List, [], _∷_, _++_}
-use Rattle.wire.specs.Bytes.{fromOf, command2Of, dataAt}
-use Rattle.reply.specs.Message.{extended}
+use mathlib.Core.List.{List, _++_}
+use Rattle.wire.specs.Bytes.{command2Of, dataAt}
 use Rattle.module.specs.declared.state.Lamp.{Lamp}
+use Rattle.module.specs.declared.state.Load.{Load}
 use Rattle.module.specs.declared.state.Module.{Module}
 use Rattle.module.specs.Change.{withLoad}
 use Rattle.dimmer.specs.Lamp.{withLevel, withRamp, withOnLevel}
-use Rattle.promises.specs.Legal.{Effect, Short, Asks, ack, repeated, becomes, sends}
+use Rattle.promises.specs.Legal.{Effect, Short, Asks, ack, repeated, properties, becomes, sends}
 
 -- a module whose load is this lamp
 module _ (m : Module) (lamp : Lamp) (l s : List ℕ) where
-  -- the lamp's level becomes this
-  abbrev level : ℕ → Effect
-  level x = becomes m l s (withLoad (withLevel x lamp) m)
+  -- the lamp becomes another
+  abbrev lit : Lamp → Effect
+  lit x = becomes m l s (withLoad (Load.Dimmer x) m)
 
-  abbrev properties : List ℕ
-  properties =
-      dataAt s 1 ∷ 0x01 ∷ 0x00 ∷ 0x00 ∷ m .house ∷ m .unit ∷ lamp .ramp ∷ lamp .«on_level» ∷ m .led ∷
-      0x00 ∷ 0x01 ∷ 0x00 ∷ 0x00 ∷ 0x00 ∷ []
+  abbrev level : ℕ → Effect
+  level x = lit (withLevel x lamp)
 
   pub data Dimmer : Effect → Type 0 where
     on : Short s 0x11 → Dimmer (level (command2Of s))
@@ -34,6 +32,6 @@ module _ (m : Module) (lamp : Lamp) (l s : List ℕ) where
     on-at-ramp : Short s 0x2e → Dimmer (level (command2Of s / 16 * 16 + 0x0f))
     off-at-ramp : Short s 0x2f → Dimmer (level 0x00)
     percent : Short s 0x39 → command2Of s ≤ 0x64 → Dimmer (level ((255 * command2Of s + 50) / 100))
-    get-properties : Asks s 0x2e 0x00 → Dimmer (sends m l (repeated m s ++ extended (m .identity .address) (fromOf s) 0x2e properties))
-    set-ramp : Asks s 0x2e 0x05 → dataAt s 3 ≤ 0x1f → Dimmer (becomes m l s (withLoad (withRamp (dataAt s 3) lamp) m))
-    set-on-level : Asks s 0x2e 0x06 → Dimmer (becomes m l s (withLoad (withOnLevel (dataAt s 3) lamp) m))
+    get-properties : Asks s 0x2e 0x00 → Dimmer (sends m l (repeated m s ++ properties m s (lamp .ramp) (lamp .«on_level»)))
+    set-ramp : Asks s 0x2e 0x05 → dataAt s 3 ≤ 0x1f → Dimmer (lit (withRamp (dataAt s 3) lamp))
+    set-on-level : Asks s 0x2e 0x06 → Dimmer (lit (withOnLevel (dataAt s 3) lamp))

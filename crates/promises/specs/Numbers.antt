@@ -18,7 +18,7 @@ use Rattle.promises.specs.Demand3.{Stranger, pingOrId}
 use Rattle.promises.specs.Legal.{Effect, sends, Ends}
 use Rattle.promises.specs.LegalAny.{Legal}
 use Rattle.promises.specs.Responders.{FirstResponder, NoResponder}
-use Rattle.promises.specs.Groups.{GroupLegal, broadcastEffect, cleanupEffect, GroupCommand1, Unconcerned}
+use Rattle.promises.specs.Groups.{GroupLegal, NoRow, broadcastEffect, cleanupEffect, GroupCommand1, Unconcerned}
 
 -- 2: link memory length 0, over 2,048, or no multiple of 8
 pub data When2 (l : List ℕ) : Type 0 where
@@ -44,8 +44,8 @@ abbrev pub When4 : List ℕ → Type 0
 When4 s = isSumWrong s ≡ true
 
 -- 8: group broadcast that concerns us not
-abbrev pub When8 : List ℕ → List ℕ → Type 0
-When8 l s = (isBroadcast s ≡ true) × Unconcerned l s
+abbrev pub When8 : Module → List ℕ → List ℕ → Type 0
+When8 m l s = (isBroadcast s ≡ true) × Unconcerned m l s
 
 -- 6: sender not linked (cleanup: no responder record)
 pub data When6 (l s : List ℕ) : Type 0 where
@@ -56,6 +56,8 @@ pub data When6 (l s : List ℕ) : Type 0 where
 pub data When7 (m : Module) (l s : List ℕ) : Type 0 where
   not-listed : isDirect s ≡ true → ((e : Effect) → ¬ Legal m l s e) → When7 m l s
   no-group-command : isCleanup s ≡ true → ¬ GroupCommand1 s → When7 m l s
+  -- the first responder record fits no row of the module's kind
+  no-group-row : (k : ℕ) → isCleanup s ≡ true → FirstResponder l (fromOf s) (command2Of s) k → NoRow m s (linkOf (recordAt l k)) → When7 m l s
 
 -- 0: carried out, as the tables of direct commands and of groups say
 pub data When0 (m : Module) (l s : List ℕ) : Effect → Type 0 where
@@ -84,10 +86,10 @@ module _ (m : Module) (l s : List ℕ) where
     one : ¬ When2 l → When1 s → Line 1 (sends m l [])
     three : ¬ When2 l → ¬ When1 s → When3 m s → Line 3 (sends m l [])
     four : ¬ When2 l → ¬ When1 s → ¬ When3 m s → When4 s → Line 4 (sends m l [])
-    eight : Sound → When8 l s → Line 8 (sends m l [])
-    six : Sound → ¬ When8 l s → When6 l s → Line 6 (sends m l (nakOf m s 0xff))
-    seven : Sound → ¬ When8 l s → ¬ When6 l s → When7 m l s → Line 7 (sends m l (nakOf m s 0xfb))
-    zero : Sound → ¬ When8 l s → ¬ When6 l s → ¬ When7 m l s → (e : Effect) → When0 m l s e → Line 0 e
+    eight : Sound → When8 m l s → Line 8 (sends m l [])
+    six : Sound → ¬ When8 m l s → When6 l s → Line 6 (sends m l (nakOf m s 0xff))
+    seven : Sound → ¬ When8 m l s → ¬ When6 l s → When7 m l s → Line 7 (sends m l (nakOf m s 0xfb))
+    zero : Sound → ¬ When8 m l s → ¬ When6 l s → ¬ When7 m l s → (e : Effect) → When0 m l s e → Line 0 e
 
   module _ (room : List ℕ) where
     -- 5 last: the room is shorter than the reply actually due, NAKs included; else the line's number
@@ -118,4 +120,4 @@ OneLine = (m : Module) (l s : List ℕ) (n k : ℕ) (e f : Effect) → Line m l 
 
 -- where no other line applies, the tables say what is carried out
 abbrev pub ElseCarriedOut : Type 0
-ElseCarriedOut = (m : Module) (l s : List ℕ) → Sound m l s → ¬ When8 l s → ¬ When6 l s → ¬ When7 m l s → IsCarriedOut m l s
+ElseCarriedOut = (m : Module) (l s : List ℕ) → Sound m l s → ¬ When8 m l s → ¬ When6 l s → ¬ When7 m l s → IsCarriedOut m l s

@@ -33,20 +33,23 @@ use Rattle.results.specs.declared.Outcome.{Outcome}
 use Rattle.results.specs.Number.{numberOf}
 use Rattle.module.specs.declared.state.Identity.{Identity}
 use Rattle.module.specs.declared.state.Lamp.{Lamp}
+use Rattle.module.specs.declared.state.Sockets.{Sockets}
 use Rattle.module.specs.declared.state.Module.{Module}
 use Rattle.module.specs.declared.change.Change.{Change}
 use Rattle.module.specs.declared.deed.Deed.{Deed}
 use Rattle.module.specs.declared.deed.Entry.{Entry}
 use Rattle.module.specs.declared.deed.GroupDeed.{GroupDeed}
 use Rattle.module.specs.declared.plan.Plan.{Plan}
-use Rattle.module.specs.Module.{freshDimmer}
+use Rattle.module.specs.Module.{freshDimmer, freshOutlet}
 use Rattle.module.specs.Change.{apply}
 use Rattle.module.specs.Deed
 use Rattle.module.specs.Plan
 use Rattle.shared.specs.Extended.{shownDeed}
 use Rattle.shared.specs.Table.{sharedDeed}
-use Rattle.dimmer.specs.Table.{entryOf}
-use Rattle.dimmer.specs.Groups.{groupDeed}
+use Rattle.dimmer.specs.Table as dimmer
+use Rattle.dimmer.specs.Groups as dimmer-groups
+use Rattle.outlet.specs.Table as outlet
+use Rattle.outlet.specs.Groups as outlet-groups
 use Rattle.decide.specs.declared.rule.Ruling.{Ruling}
 use Rattle.decide.specs.Ruling.{rulingBy}
 use Rattle.device.specs.declared.step.Answer.{Answer}
@@ -91,9 +94,11 @@ pub record EachOnce : Type 0 where
       → Only (λ (d : Delivered). Sending (replyOf own l due) room (d .answer) (d .room))
   pub results-number : (o : Outcome) → Only (λ (r : ℕ). r ≡ numberOf o)
   pub module-fresh-dimmer : (i : Identity) → Only (λ (r : Module). r ≡ freshDimmer i)
+  pub module-fresh-outlet : (i : Identity) → Only (λ (r : Module). r ≡ freshOutlet i)
   pub module-apply : (m : Module) (change : Change) → Only (λ (r : Module). r ≡ apply change m)
   pub module-acked : (change : Change) → Only (λ (r : Deed). r ≡ Deed.acked change)
   pub module-telling : (x : ℕ) → Only (λ (r : Deed). r ≡ Deed.telling x)
+  pub module-showing : (x : ℕ) → Only (λ (r : Deed). r ≡ Deed.showing x)
   pub module-limited : (a b x : ℕ) (change : Change) → Only (λ (r : Deed). r ≡ Deed.limited a b x change)
   pub module-headed : (type : ReplyType) (q : Request) (one two : ℕ) → Only (λ (r : Head). r ≡ Plan.headed type q one two)
   pub module-done : (change : Change) (due : Due) → Only (λ (r : Plan). r ≡ Plan.done change due)
@@ -103,8 +108,13 @@ pub record EachOnce : Type 0 where
   pub module-deed-plan : (m : Module) (q : Request) (deed : Deed) → Only (λ (r : Plan). r ≡ Plan.deedPlan m q deed)
   pub shared-shown-deed : (m : Module) (data1 ramp level : ℕ) → Only (λ (r : Deed). r ≡ shownDeed m data1 ramp level)
   pub shared-shared-deed : (m : Module) (q : Request) (d : List ℕ) (n : ℕ) (command : Command) → Only (λ (r : Deed). r ≡ sharedDeed m q d n command)
-  pub dimmer-entry-of : (m : Module) (lamp : Lamp) (q : Request) (d : List ℕ) (command : Command) → Only (λ (r : Entry). r ≡ entryOf m lamp q d command)
-  pub dimmer-group-deed : (lamp : Lamp) (command : GroupCommand) (link : Link) → Only (λ (r : GroupDeed). r ≡ groupDeed lamp command link)
+  pub dimmer-entry-of : (m : Module) (lamp : Lamp) (q : Request) (d : List ℕ) (command : Command)
+      → Only (λ (r : Entry). r ≡ dimmer.entryOf m lamp q d command)
+  pub dimmer-group-deed : (lamp : Lamp) (command : GroupCommand) (link : Link) → Only (λ (r : GroupDeed). r ≡ dimmer-groups.groupDeed lamp command link)
+  pub outlet-entry-of : (m : Module) (sockets : Sockets) (q : Request) (d : List ℕ) (command : Command)
+      → Only (λ (r : Entry). r ≡ outlet.entryOf m sockets q d command)
+  pub outlet-group-deed : (sockets : Sockets) (command : GroupCommand) (link : Link)
+      → Only (λ (r : GroupDeed). r ≡ outlet-groups.groupDeed sockets command link)
   pub decide-ruling-by : (m : Module) (l : List ℕ) (message : Message) → Only (λ (r : Ruling). r ≡ rulingBy m l message)
   pub device-step : (m : Module) (l s room : List ℕ) → Only (λ (d : Called). StepPromise m l s room (d .answer) (d .links) (d .room))
   pub modem-seek : (s : List ℕ) → Only (λ (r : Seen). r ≡ seekOf s)

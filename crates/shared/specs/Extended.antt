@@ -84,6 +84,8 @@ databaseDeed r d n = choose (eqb (r .command2) 0x00) (recordDeed d n) Deed.Unlis
 
 -- link memory has n records
 abbrev pub extendedDeed : Module → Request → List ℕ → ℕ → Extended → Deed
+extendedDeed m r d n Extended.On = Deed.Unlisted
+extendedDeed m r d n Extended.Off = Deed.Unlisted
 extendedDeed m r d n Extended.SetFlags = flagsDeed m (r .command2)
 extendedDeed m r d n Extended.Properties = propertiesDeed r d
 extendedDeed m r d n Extended.Database = databaseDeed r d n

@@ -22,6 +22,8 @@ pub(crate) fn extended_deed(
     ensures { λ deed. ⌜ deed ≡ extendedDeed m r «data» records command ⌝ }
 {
     match command {
+        Extended::On => Deed::Unlisted,
+        Extended::Off => Deed::Unlisted,
         Extended::SetFlags => flags_deed(m, r.command2),
         Extended::Properties => properties_deed(r, data),
         Extended::Database => database_deed(r, data, records),

@@ -1,4 +1,4 @@
-// A line for a person to read: result, sender, what was asked, reply, records read, level.
+// A line for a person to read: result, sender, what was asked, reply, records read, what the load is at.
 use crate::name::put_kind;
 use crate::name::put_name;
 use crate::put::put;
@@ -14,29 +14,65 @@ ghost use Rattle.io.specs.Counts.{Counts};
 pub struct Shown {
     pub result: u8,
     pub read: u64,
-    pub level: u8,
+    pub load: LoadShown,
+}
+
+// What the load is at, a case for each kind of module.
+pub enum LoadShown {
+    Level(u8),
+    // The top one and the bottom one, on or off.
+    Sockets(bool, bool),
 }
 
 // The frame's line, laid over the start of `line`; how many bytes it has there. What no longer fits is left out.
 pub fn put_line(line: &mut [u8], frame: &[u8], shown: Shown, reply: &[u8]) -> usize
     ensures { λ r. ⌜ Counts r (now (line .exit)) ⌝ }
 {
+    let load = shown.load;
     let mut at = put_result(line, 0, shown.result);
-    at = put_asked(line, at, frame);
+    at = put_asked(line, at, frame, load);
     at = put(line, at, b" | reply");
     at = put_bytes(line, at, reply);
-    put_state(line, at, shown.read, shown.level)
+    put_state(line, at, shown.read, load)
 }
 
-fn put_state(line: &mut [u8], at: usize, read: u64, level: u8) -> usize
+fn put_state(line: &mut [u8], at: usize, read: u64, load: LoadShown) -> usize
     requires { ⌜ at ≤ length (now line) ⌝ }
     ensures { λ r. ⌜ Counts r (now (line .exit)) ⌝ }
 {
     let mut to = put(line, at, b" | read ");
     to = put_number(line, to, read);
-    to = put(line, to, b" | level");
-    to = put_byte(line, to, level);
+    to = put_load(line, to, load);
     put(line, to, b"\n")
+}
+
+fn put_load(line: &mut [u8], at: usize, load: LoadShown) -> usize
+    requires { ⌜ at ≤ length (now line) ⌝ }
+    ensures { λ r. ⌜ Counts r (now (line .exit)) ⌝ }
+{
+    match load {
+        LoadShown::Level(level) => {
+            let to = put(line, at, b" | level");
+            put_byte(line, to, level)
+        }
+        LoadShown::Sockets(top, bottom) => {
+            let mut to = put(line, at, b" | top");
+            to = put_switch(line, to, top);
+            to = put(line, to, b", bottom");
+            put_switch(line, to, bottom)
+        }
+    }
+}
+
+fn put_switch(line: &mut [u8], at: usize, is_on: bool) -> usize
+    requires { ⌜ at ≤ length (now line) ⌝ }
+    ensures { λ r. ⌜ Counts r (now (line .exit)) ⌝ }
+{
+    if is_on {
+        put(line, at, b" on")
+    } else {
+        put(line, at, b" off")
+    }
 }
 
 // The paper's number and its name.
@@ -58,7 +94,7 @@ fn put_result(line: &mut [u8], at: usize, result: u8) -> usize
 }
 
 // The message behind the frame's two bytes.
-fn put_asked(line: &mut [u8], at: usize, frame: &[u8]) -> usize
+fn put_asked(line: &mut [u8], at: usize, frame: &[u8], load: LoadShown) -> usize
     requires { ⌜ at ≤ length (now line) ⌝ }
     ensures { λ r. ⌜ Counts r (now (line .exit)) ⌝ }
 {
@@ -67,7 +103,7 @@ fn put_asked(line: &mut [u8], at: usize, frame: &[u8]) -> usize
     }
     let message = &frame[2..];
     let to = put_route(line, at, message);
-    put_command(line, to, message)
+    put_command(line, to, message, load)
 }
 
 fn put_route(line: &mut [u8], at: usize, message: &[u8]) -> usize
@@ -81,7 +117,7 @@ fn put_route(line: &mut [u8], at: usize, message: &[u8]) -> usize
     put_bytes(line, to, &message[3..6])
 }
 
-fn put_command(line: &mut [u8], at: usize, message: &[u8]) -> usize
+fn put_command(line: &mut [u8], at: usize, message: &[u8], load: LoadShown) -> usize
     requires { ⌜ at ≤ length (now line) ⌝ }
     requires { ⌜ 9 ≤ length (now message) ⌝ }
     ensures { λ r. ⌜ Counts r (now (line .exit)) ⌝ }
@@ -89,7 +125,7 @@ fn put_command(line: &mut [u8], at: usize, message: &[u8]) -> usize
     let kind = heard_as(message);
     let mut to = put_kind(line, at, kind);
     to = put_bytes(line, to, &message[7..9]);
-    to = put_name(line, to, kind);
+    to = put_name(line, to, kind, load);
     put_data(line, to, &message[9..])
 }
 

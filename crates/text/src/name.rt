@@ -1,5 +1,6 @@
 // What a message asks for, by the kinds and commands of `wire`. Every variant is listed and no arm takes the rest, so that a
 // command that `wire` gains is named here too, or nothing compiles.
+use crate::line::LoadShown;
 use crate::put::put;
 use wire::command::Command;
 use wire::command::Extended;
@@ -25,37 +26,37 @@ pub(crate) fn put_kind(line: &mut [u8], at: usize, kind: MessageKind) -> usize
     }
 }
 
-// What the paper's lists call it. A foreign message is in none of them: its bytes alone are shown.
-pub(crate) fn put_name(line: &mut [u8], at: usize, kind: MessageKind) -> usize
+// What the lists for a module with such a load call it. A foreign message is in none of them: its bytes alone are shown.
+pub(crate) fn put_name(line: &mut [u8], at: usize, kind: MessageKind, load: LoadShown) -> usize
     requires { ⌜ at ≤ length (now line) ⌝ }
     ensures { λ r. ⌜ Counts r (now (line .exit)) ⌝ }
 {
     match kind {
-        MessageKind::Direct(_, command) => put_direct(line, at, command),
+        MessageKind::Direct(_, command) => put_direct(line, at, command, load),
         MessageKind::Cleanup(_, command) => put_group_command(line, at, command),
         MessageKind::Broadcast(_, _, command) => put_group_command(line, at, command),
         MessageKind::Foreign => put(line, at, b""),
     }
 }
 
-fn put_direct(line: &mut [u8], at: usize, command: Command) -> usize
+fn put_direct(line: &mut [u8], at: usize, command: Command, load: LoadShown) -> usize
     requires { ⌜ at ≤ length (now line) ⌝ }
     ensures { λ r. ⌜ Counts r (now (line .exit)) ⌝ }
 {
     match command {
-        Command::Standard(standard) => put_standard(line, at, standard),
-        Command::Extended(extended) => put_extended(line, at, extended),
+        Command::Standard(standard) => put_standard(line, at, standard, load),
+        Command::Extended(extended) => put_extended(line, at, extended, load),
     }
 }
 
-fn put_standard(line: &mut [u8], at: usize, command: Standard) -> usize
+fn put_standard(line: &mut [u8], at: usize, command: Standard, load: LoadShown) -> usize
     requires { ⌜ at ≤ length (now line) ⌝ }
     ensures { λ r. ⌜ Counts r (now (line .exit)) ⌝ }
 {
     match command {
         Standard::Open(open) => put_open_command(line, at, open),
         Standard::Module(common) => put_module_command(line, at, common),
-        Standard::Load(load) => put_load_command(line, at, load),
+        Standard::Load(own) => put_load_command(line, at, own, load),
         Standard::Unlisted => put_unlisted(line, at),
     }
 }
@@ -81,34 +82,58 @@ fn put_module_command(line: &mut [u8], at: usize, command: ModuleCommand) -> usi
     }
 }
 
-fn put_load_command(line: &mut [u8], at: usize, command: LoadCommand) -> usize
+fn put_load_command(line: &mut [u8], at: usize, command: LoadCommand, load: LoadShown) -> usize
     requires { ⌜ at ≤ length (now line) ⌝ }
     ensures { λ r. ⌜ Counts r (now (line .exit)) ⌝ }
 {
     match command {
         LoadCommand::On => put(line, at, b" on"),
-        LoadCommand::OnFast => put(line, at, b" fast on"),
-        LoadCommand::Instant => put(line, at, b" set level"),
+        LoadCommand::OnFast => put_for_lamp(line, at, load, b" fast on"),
+        LoadCommand::Instant => put_for_lamp(line, at, load, b" set level"),
         LoadCommand::Off => put(line, at, b" off"),
-        LoadCommand::OffFast => put(line, at, b" fast off"),
-        LoadCommand::Brighten => put(line, at, b" brighten"),
-        LoadCommand::Dim => put(line, at, b" dim"),
+        LoadCommand::OffFast => put_for_lamp(line, at, load, b" fast off"),
+        LoadCommand::Brighten => put_for_lamp(line, at, load, b" brighten"),
+        LoadCommand::Dim => put_for_lamp(line, at, load, b" dim"),
         LoadCommand::Status => put(line, at, b" status"),
-        LoadCommand::OnAtRamp => put(line, at, b" on at ramp rate"),
-        LoadCommand::OffAtRamp => put(line, at, b" off at ramp rate"),
-        LoadCommand::Percent => put(line, at, b" set per cent"),
+        LoadCommand::OnAtRamp => put_for_lamp(line, at, load, b" on at ramp rate"),
+        LoadCommand::OffAtRamp => put_for_lamp(line, at, load, b" off at ramp rate"),
+        LoadCommand::Percent => put_for_lamp(line, at, load, b" set per cent"),
     }
 }
 
-fn put_extended(line: &mut [u8], at: usize, command: Extended) -> usize
+fn put_extended(line: &mut [u8], at: usize, command: Extended, load: LoadShown) -> usize
     requires { ⌜ at ≤ length (now line) ⌝ }
     ensures { λ r. ⌜ Counts r (now (line .exit)) ⌝ }
 {
     match command {
+        Extended::On => put_for_sockets(line, at, load, b" on"),
+        Extended::Off => put_for_sockets(line, at, load, b" off"),
         Extended::SetFlags => put(line, at, b" set flags"),
         Extended::Properties => put(line, at, b" properties"),
         Extended::Database => put(line, at, b" database"),
         Extended::Unlisted => put_unlisted(line, at),
+    }
+}
+
+// A command that dimmers alone have.
+fn put_for_lamp(line: &mut [u8], at: usize, load: LoadShown, name: &[u8]) -> usize
+    requires { ⌜ at ≤ length (now line) ⌝ }
+    ensures { λ r. ⌜ Counts r (now (line .exit)) ⌝ }
+{
+    match load {
+        LoadShown::Level(_) => put(line, at, name),
+        LoadShown::Sockets(_, _) => put_unlisted(line, at),
+    }
+}
+
+// A command that outlets alone have.
+fn put_for_sockets(line: &mut [u8], at: usize, load: LoadShown, name: &[u8]) -> usize
+    requires { ⌜ at ≤ length (now line) ⌝ }
+    ensures { λ r. ⌜ Counts r (now (line .exit)) ⌝ }
+{
+    match load {
+        LoadShown::Level(_) => put_unlisted(line, at),
+        LoadShown::Sockets(_, _) => put(line, at, name),
     }
 }
 

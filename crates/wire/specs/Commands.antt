@@ -36,9 +36,11 @@ standards =
 abbrev pub standardOf : ℕ → Standard
 standardOf command1 = among command1 Standard.Unlisted standards
 
--- "Direct commands, extended"
+-- "Direct commands, extended", and those to the second socket of an outlet
 unfoldable pub extendeds : List (Row Extended)
 extendeds =
+    0x11 ⇒ Extended.On ∷
+    0x13 ⇒ Extended.Off ∷
     0x20 ⇒ Extended.SetFlags ∷
     0x2e ⇒ Extended.Properties ∷
     0x2f ⇒ Extended.Database ∷

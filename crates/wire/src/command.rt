@@ -38,6 +38,8 @@ pub enum LoadCommand {
 
 // "Direct commands, extended".
 pub enum Extended {
+    On,
+    Off,
     SetFlags,
     Properties,
     Database,
@@ -85,6 +87,8 @@ pub(crate) fn extended_of(command1: u8) -> Extended
     ensures { λ r. ⌜ r ≡ extendedOf command1 ⌝ }
 {
     match command1 {
+        0x11 => Extended::On,
+        0x13 => Extended::Off,
         0x20 => Extended::SetFlags,
         0x2e => Extended::Properties,
         0x2f => Extended::Database,

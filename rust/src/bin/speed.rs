@@ -7,7 +7,7 @@ use dreelish_tests::example::{Example, LINKED, STRANGER};
 use dreelish_tests::framing::frame;
 use dreelish_tests::library;
 use dreelish_tests::paper::links::{Record, RECORD};
-use dreelish_tests::paper::{self, Module, BENCH, LONGEST_REPLY};
+use dreelish_tests::paper::{self, Module, ModuleKind, LONGEST_REPLY};
 use dreelish_tests::program::{expected, Bench, Folder};
 use dreelish_tests::random::Random;
 
@@ -18,6 +18,7 @@ const FRAMES: usize = 200_000;
 
 struct Case {
     name: &'static str,
+    kind: ModuleKind,
     links: Vec<u8>,
     message: Vec<u8>,
 }
@@ -29,13 +30,13 @@ fn main() {
 
 fn print_messages() {
     println!("Messages a second, one processor, best of {REPEATS} repeats each; library and Rust take turns.");
-    println!("The library keeps the module as its image of 15 bytes, Rust as a struct.\n");
-    println!("message               records      library         Rust  library/Rust");
+    println!("The library keeps the module as the bytes of its image, Rust as a struct.\n");
+    println!("message                   records      library         Rust  library/Rust");
     for records in [1, 16, 256] {
         for case in cases(records) {
             let (library, rust) = measure(&case);
             println!(
-                "{:<21} {records:>7} {library:>12.0} {rust:>12.0} {:>13.2}",
+                "{:<25} {records:>7} {library:>12.0} {rust:>12.0} {:>13.2}",
                 case.name,
                 library / rust
             );
@@ -44,24 +45,27 @@ fn print_messages() {
 }
 
 /// All records are live, and the linked sender's is the last, so that every search goes through all of them.
-fn cases(records: usize) -> [Case; 3] {
-    let case = |name, message| Case {
+fn cases(records: usize) -> [Case; 5] {
+    let case = |name, kind, example: Example| Case {
         name,
+        kind,
         links: full_links(records),
-        message,
+        message: example.message,
     };
+    let (dimmer, outlet) = (ModuleKind::Dimmer, ModuleKind::Outlet);
+    let on = |from| Example::direct(from, 0x11, 0x80);
     let mut get = [0x00; 14];
     get[2..4].copy_from_slice(&[0x0F, 0xFF]);
     [
-        case(
-            "stranger, 11 80",
-            Example::direct(STRANGER, 0x11, 0x80).message,
-        ),
-        case("linked, 11 80", Example::direct(LINKED, 0x11, 0x80).message),
+        case("stranger, 11 80", dimmer, on(STRANGER)),
+        case("linked, 11 80", dimmer, on(LINKED)),
         case(
             "linked, all records",
-            Example::extended(LINKED, 0x2F, 0x00, get).message,
+            dimmer,
+            Example::extended(LINKED, 0x2F, 0x00, get),
         ),
+        case("outlet, stranger, 11 80", outlet, on(STRANGER)),
+        case("outlet, linked, 11 80", outlet, on(LINKED)),
     ]
 }
 
@@ -94,7 +98,7 @@ fn measure(case: &Case) -> (f64, f64) {
 }
 
 fn time_library(case: &Case, count: usize) -> Duration {
-    let mut image = library::image(&Module::fresh(BENCH));
+    let mut image = library::image(&Module::bench(case.kind));
     let mut links = case.links.clone();
     let mut room = [0; LONGEST_REPLY];
     let start = Instant::now();
@@ -110,7 +114,7 @@ fn time_library(case: &Case, count: usize) -> Duration {
 }
 
 fn time_rust(case: &Case, count: usize) -> Duration {
-    let mut module = Module::fresh(BENCH);
+    let mut module = Module::bench(case.kind);
     let mut links = case.links.clone();
     let mut room = [0; LONGEST_REPLY];
     let start = Instant::now();
@@ -150,7 +154,7 @@ fn print_frames() {
 /// How long a whole run takes. What it wrote must be right.
 fn run_bench(links: &[u8], stream: &[u8]) -> Duration {
     let folder = Folder::with_links(links);
-    let expected = expected(links, stream);
+    let expected = expected(ModuleKind::Dimmer, links, stream);
     let start = Instant::now();
     let mut bench = Bench::start(&folder);
     bench.send(stream);

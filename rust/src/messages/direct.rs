@@ -17,7 +17,7 @@ pub fn standard(random: &mut Random) -> [u8; 2] {
     let command1 = random.pick(&STANDARD);
     let command2 = match command1 {
         _ if random.per_cent(10) => random.byte(),
-        0x19 => random.pick(&[0x00, 0x06, 0x00, 0x06, 0x01, 0x05, 0x07]),
+        0x19 => random.pick(&[0x00, 0x01, 0x06, 0x00, 0x01, 0x06, 0x02, 0x05, 0x07]),
         0x1F => random.pick(&[0x00, 0x01, 0x00, 0x01, 0x02]),
         0x39 => random.byte_in(0x00, 0x66),
         _ => random.byte(),
@@ -27,12 +27,14 @@ pub fn standard(random: &mut Random) -> [u8; 2] {
 
 pub fn extended(random: &mut Random, scene: &Scene) -> ([u8; 2], [u8; 14]) {
     let mut data: [u8; 14] = random.bytes();
-    let command1 = random.pick(&[0x20, 0x2E, 0x2E, 0x2E, 0x2F, 0x2F, 0x2F]);
+    let command1 = random.pick(&[0x11, 0x13, 0x20, 0x2E, 0x2E, 0x2E, 0x2F, 0x2F, 0x2F]);
     let command2 = match command1 {
+        0x11 | 0x13 => random.byte(),
         0x20 => random.byte_in(0x00, 0x11),
         _ => 0x00,
     };
     match command1 {
+        0x11 | 0x13 => data[0] = random.pick(&[0x02, 0x02, 0x02, 0x02, 0x01, 0x00, 0x03]),
         0x2E => properties(random, &mut data),
         0x2F => database(random, scene, &mut data),
         _ => {}

@@ -1,7 +1,9 @@
 //! A module, its link memory and the people who send to it.
 
+use crate::paper::lamp::Lamp;
 use crate::paper::links::{Record, RECORD};
-use crate::paper::{Address, Identity, Module, BENCH};
+use crate::paper::sockets::Sockets;
+use crate::paper::{Address, Identity, Load, Module, ModuleKind};
 use crate::random::Random;
 
 const FEW_GROUPS: [u8; 5] = [0x00, 0x01, 0x02, 0x03, 0xFF];
@@ -15,16 +17,16 @@ pub struct Scene {
 }
 
 impl Scene {
-    pub fn fit(random: &mut Random) -> Self {
-        let mut scene = Self::empty(random);
-        scene.module = any_module(random);
+    pub fn fit(kind: ModuleKind, random: &mut Random) -> Self {
+        let mut scene = Self::empty(kind, random);
+        scene.module = any_module(kind, random);
         scene.fill_links(random);
         scene
     }
 
     /// A scene whose link memory has a length that is not allowed.
-    pub fn unfit(random: &mut Random) -> Self {
-        let mut scene = Self::fit(random);
+    pub fn unfit(kind: ModuleKind, random: &mut Random) -> Self {
+        let mut scene = Self::fit(kind, random);
         let length = match random.below(3) {
             0 => random.below(256) * RECORD + 1 + random.below(7),
             1 => 2048 + RECORD * (1 + random.below(40)),
@@ -36,15 +38,15 @@ impl Scene {
     }
 
     /// The scene that program `bench` starts from, with some fit links.bin.
-    pub fn bench(random: &mut Random) -> Self {
-        let mut scene = Self::empty(random);
+    pub fn bench(kind: ModuleKind, random: &mut Random) -> Self {
+        let mut scene = Self::empty(kind, random);
         scene.fill_links(random);
         scene
     }
 
-    fn empty(random: &mut Random) -> Self {
+    fn empty(kind: ModuleKind, random: &mut Random) -> Self {
         Self {
-            module: Module::fresh(BENCH),
+            module: Module::bench(kind),
             links: Vec::new(),
             people: std::array::from_fn(|_| random.bytes()),
         }
@@ -73,7 +75,7 @@ impl Scene {
         }
     }
 
-    /// A record as a module might hold it: most are in use, most belong to somebody here.
+    /// A record as a module might hold it: most are in use, most belong to somebody here, most name a socket or nearly one.
     pub fn record(&self, random: &mut Random) -> Record {
         let mut record: Record = random.bytes();
         record[0] |= 0x02;
@@ -83,6 +85,12 @@ impl Scene {
         record[1] = self.group(random);
         if random.per_cent(80) {
             record[2..5].copy_from_slice(&self.person(random));
+        }
+        if random.per_cent(20) {
+            record[5] = 0x00;
+        }
+        if random.per_cent(80) {
+            record[7] = random.pick(&[0x01, 0x02, 0x01, 0x02, 0x00, 0x03]);
         }
         record
     }
@@ -111,25 +119,40 @@ impl Scene {
     }
 }
 
-fn any_module(random: &mut Random) -> Module {
+fn any_module(kind: ModuleKind, random: &mut Random) -> Module {
     let identity = match random.per_cent(30) {
-        true => BENCH,
+        true => kind.bench(),
         false => any_identity(random),
     };
-    let [level, flags, ramp, on_level, led, house, unit, delta] = match random.per_cent(80) {
+    let [flags, led, house, unit, delta] = match random.per_cent(80) {
         true => random.bytes(),
-        false => return Module::fresh(identity),
+        false => return Module::fresh(kind, identity),
     };
     Module {
         identity,
-        level,
+        load: any_load(kind, random),
         flags,
-        ramp,
-        on_level,
         led,
         house,
         unit,
         delta,
+    }
+}
+
+fn any_load(kind: ModuleKind, random: &mut Random) -> Load {
+    match kind {
+        ModuleKind::Dimmer => {
+            let [level, ramp, on_level] = random.bytes();
+            Load::Lamp(Lamp {
+                level,
+                ramp,
+                on_level,
+            })
+        }
+        ModuleKind::Outlet => Load::Sockets(Sockets {
+            top: random.per_cent(50),
+            bottom: random.per_cent(50),
+        }),
     }
 }
 

@@ -1,16 +1,14 @@
 //! What a message that is carried out leaves behind.
 
 use super::links::RECORD;
-use super::module::Module;
+use super::module::{Load, Module};
 
 #[derive(Clone, Copy, Debug)]
 pub enum Change<'a> {
     Nothing,
-    Level(u8),
+    Load(Load),
     Flags(u8),
     X10 { house: u8, unit: u8 },
-    Ramp(u8),
-    OnLevel(u8),
     Led(u8),
     Record { k: usize, bytes: &'a [u8] },
 }
@@ -19,11 +17,9 @@ impl Change<'_> {
     pub fn apply(self, module: &mut Module, links: &mut [u8]) {
         match self {
             Self::Nothing => {}
-            Self::Level(level) => module.level = level,
+            Self::Load(load) => module.load = load,
             Self::Flags(flags) => module.flags = flags,
             Self::X10 { house, unit } => (module.house, module.unit) = (house, unit),
-            Self::Ramp(ramp) => module.ramp = ramp,
-            Self::OnLevel(on_level) => module.on_level = on_level,
             Self::Led(led) => module.led = led,
             Self::Record { k, bytes } => {
                 links[k * RECORD..][..bytes.len()].copy_from_slice(bytes);

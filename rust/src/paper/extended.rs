@@ -3,7 +3,7 @@
 use super::change::Change;
 use super::links::{self, Record};
 use super::message::Data;
-use super::module::Module;
+use super::module::{Load, Module};
 use super::reply::Reply;
 
 type Answer<'a> = (Change<'a>, Reply);
@@ -18,9 +18,12 @@ pub fn carry_out<'a>(
 ) -> Option<Answer<'a>> {
     match (command1, command2) {
         (0x20, 0x00..=0x0F) => Some(set_flag(module.flags, command2)),
-        (0x2E, 0x00) => properties(data),
+        (0x2E, 0x00) => properties(module.load, data),
         (0x2F, 0x00) => database(records, data),
-        _ => None,
+        _ => {
+            let load = module.load.after_extended(command1, data)?;
+            Some((Change::Load(load), Reply::ack(command1, command2)))
+        }
     }
 }
 
@@ -34,7 +37,7 @@ fn set_flag(flags: u8, command2: u8) -> Answer<'static> {
     (Change::Flags(flags), Reply::ack(0x20, command2))
 }
 
-fn properties(data: Data) -> Option<Answer> {
+fn properties(load: Load, data: Data) -> Option<Answer> {
     let value = data.at(3);
     let change = match (data.at(2), value) {
         (0x00, _) => {
@@ -45,10 +48,8 @@ fn properties(data: Data) -> Option<Answer> {
             house,
             unit: data.at(4),
         },
-        (0x05, 0x00..=0x1F) => Change::Ramp(value),
-        (0x06, _) => Change::OnLevel(value),
         (0x07, 0x11..=0x7F) => Change::Led(value),
-        _ => return None,
+        (what, _) => Change::Load(load.after_property(what, value)?),
     };
     Some((change, Reply::ack(0x2E, 0x00)))
 }

@@ -1,4 +1,4 @@
-//! The paper in plain Rust, in the order of its headings. Nothing here was taken from the proved code.
+//! The paper and its requests in plain Rust, in the order of its headings. Nothing here was taken from the proved code.
 
 #![forbid(unsafe_code)]
 
@@ -6,14 +6,17 @@ pub mod change;
 pub mod checksum;
 pub mod extended;
 pub mod groups;
+pub mod lamp;
 pub mod links;
+pub mod load;
 pub mod message;
 pub mod module;
 pub mod reply;
+pub mod sockets;
 pub mod standard;
 pub mod step;
 
-pub use module::{Address, Identity, Module, BENCH};
+pub use module::{Address, Identity, Load, Module, ModuleKind, BENCH};
 pub use step::{step, Outcome};
 
 /// "The program": the longest reply, an ACK and 256 records.

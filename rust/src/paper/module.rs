@@ -1,4 +1,7 @@
-//! "The module we simulate": a module is these values and nothing else.
+//! "The module we simulate", and the second kind of request 1: a module is these values and nothing else.
+
+use super::lamp::Lamp;
+use super::sockets::Sockets;
 
 pub type Address = [u8; 3];
 
@@ -11,7 +14,23 @@ pub struct Identity {
     pub hardware: u8,
 }
 
-/// "The program": the identity that the bench answers to.
+#[derive(Clone, Copy, Debug, PartialEq, Eq)]
+pub enum ModuleKind {
+    Dimmer,
+    Outlet,
+}
+
+impl ModuleKind {
+    /// The identity that the bench answers to with a module of this kind.
+    pub const fn bench(self) -> Identity {
+        match self {
+            Self::Dimmer => BENCH,
+            Self::Outlet => BENCH_OUTLET,
+        }
+    }
+}
+
+/// "The program".
 pub const BENCH: Identity = Identity {
     address: [0x00, 0x10, 0x3A],
     category: 0x01,
@@ -20,13 +39,27 @@ pub const BENCH: Identity = Identity {
     hardware: 0x00,
 };
 
+/// The outlet at the same address; category and subcategory as request 1 has them.
+pub const BENCH_OUTLET: Identity = Identity {
+    address: BENCH.address,
+    category: 0x02,
+    subcategory: 0x39,
+    firmware: 0xC2,
+    hardware: 0x00,
+};
+
+/// What a module switches or dims, by its kind.
+#[derive(Clone, Copy, Debug, PartialEq, Eq)]
+pub enum Load {
+    Lamp(Lamp),
+    Sockets(Sockets),
+}
+
 #[derive(Clone, Copy, Debug, PartialEq, Eq)]
 pub struct Module {
     pub identity: Identity,
-    pub level: u8,
+    pub load: Load,
     pub flags: u8,
-    pub ramp: u8,
-    pub on_level: u8,
     pub led: u8,
     pub house: u8,
     pub unit: u8,
@@ -34,17 +67,23 @@ pub struct Module {
 }
 
 impl Module {
-    pub const fn fresh(identity: Identity) -> Self {
+    pub const fn fresh(kind: ModuleKind, identity: Identity) -> Self {
         Self {
             identity,
-            level: 0x00,
+            load: match kind {
+                ModuleKind::Dimmer => Load::Lamp(Lamp::FRESH),
+                ModuleKind::Outlet => Load::Sockets(Sockets::FRESH),
+            },
             flags: 0x00,
-            ramp: 0x1F,
-            on_level: 0xFF,
             led: 0x3F,
             house: 0x20,
             unit: 0x20,
             delta: 0x00,
         }
+    }
+
+    /// The module that the bench starts with.
+    pub const fn bench(kind: ModuleKind) -> Self {
+        Self::fresh(kind, kind.bench())
     }
 }

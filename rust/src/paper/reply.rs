@@ -101,13 +101,9 @@ fn put_id_broadcast(room: &mut [u8], module: &Module) {
 
 fn properties(module: &Module, data1: u8) -> [u8; 14] {
     let Module {
-        house,
-        unit,
-        ramp,
-        on_level,
-        led,
-        ..
+        house, unit, led, ..
     } = *module;
+    let [ramp, on_level] = module.load.ramp_and_on_level();
     [
         data1, 0x01, 0x00, 0x00, house, unit, ramp, on_level, led, 0x00, 0x01, 0x00, 0x00, 0x00,
     ]

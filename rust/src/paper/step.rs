@@ -3,7 +3,7 @@
 use super::change::Change;
 use super::links::{self, Record};
 use super::message::{Kind, Message};
-use super::module::{Address, Module};
+use super::module::{Address, Load, Module};
 use super::reply::Reply;
 use super::{checksum, extended, groups, standard};
 
@@ -108,8 +108,8 @@ fn decide<'a>(
 ) -> Verdict<'a> {
     match kind {
         Kind::Direct => direct(module, records, message),
-        Kind::Cleanup => cleanup(records, message),
-        Kind::Broadcast => broadcast(records, message),
+        Kind::Cleanup => cleanup(module.load, records, message),
+        Kind::Broadcast => broadcast(module.load, records, message),
     }
 }
 
@@ -134,30 +134,30 @@ fn direct<'a>(module: &Module, records: &[Record], message: &Message<'a>) -> Ver
     }
 }
 
-fn broadcast<'a>(records: &[Record], message: &Message) -> Verdict<'a> {
+fn broadcast<'a>(load: Load, records: &[Record], message: &Message) -> Verdict<'a> {
     let Some(group) = groups::broadcast_group(message) else {
         return Verdict::refused(8, 0, Reply::None);
     };
     let search = links::responder(records, message.from, group);
-    let level = search
+    let load = search
         .found
-        .and_then(|record| groups::level(record, message.command1));
-    match level {
-        Some(level) => Verdict::carried_out(search.read, Change::Level(level), Reply::None),
+        .and_then(|record| load.after_group(record, message.command1));
+    match load {
+        Some(load) => Verdict::carried_out(search.read, Change::Load(load), Reply::None),
         None => Verdict::refused(8, search.read, Reply::None),
     }
 }
 
-fn cleanup<'a>(records: &[Record], message: &Message) -> Verdict<'a> {
+fn cleanup<'a>(load: Load, records: &[Record], message: &Message) -> Verdict<'a> {
     let (command1, group) = (message.command1, message.command2);
     let search = links::responder(records, message.from, group);
     let Some(record) = search.found else {
         return Verdict::refused(6, search.read, Reply::cleanup_nak(command1, NOT_LINKED));
     };
-    match groups::level(record, command1) {
-        Some(level) => Verdict::carried_out(
+    match load.after_group(record, command1) {
+        Some(load) => Verdict::carried_out(
             search.read,
-            Change::Level(level),
+            Change::Load(load),
             Reply::cleanup_ack(command1, group),
         ),
         None => Verdict::refused(7, search.read, Reply::cleanup_nak(command1, NOT_LISTED)),

@@ -2,6 +2,7 @@
 
 use std::thread::sleep;
 
+use dreelish_tests::paper::ModuleKind::Dimmer;
 use dreelish_tests::program::expected;
 
 use crate::*;
@@ -9,7 +10,7 @@ use crate::*;
 #[test]
 fn all_frames_in_one_write() {
     let written = output(&LINKS, &mixed_stream());
-    assert_same(&written, &expected(&LINKS, &mixed_stream()));
+    assert_same(&written, &expected(Dimmer, &LINKS, &mixed_stream()));
 }
 
 #[test]
@@ -20,7 +21,7 @@ fn one_byte_at_a_time() {
         bench.send(&[byte]);
         sleep(PAUSE / 2);
     }
-    assert_same(&bench.finish(), &expected(&LINKS, &mixed_stream()));
+    assert_same(&bench.finish(), &expected(Dimmer, &LINKS, &mixed_stream()));
 }
 
 /// Every repeat is answered with as many bytes as the first, so each can wait for the one before it.
@@ -29,7 +30,7 @@ fn split_at_every_position() {
     let folder = Folder::with_links(&LINKS);
     let mut bench = Bench::start(&folder);
     let stream = mixed_stream();
-    let length = expected(&LINKS, &stream).len();
+    let length = expected(Dimmer, &LINKS, &stream).len();
     let mut written = Vec::new();
     for at in 1..stream.len() {
         bench.send(&stream[..at]);
@@ -39,7 +40,7 @@ fn split_at_every_position() {
     }
     written.extend(bench.finish());
     let whole = stream.repeat(stream.len() - 1);
-    assert_same(&written, &expected(&LINKS, &whole));
+    assert_same(&written, &expected(Dimmer, &LINKS, &whole));
 }
 
 #[test]

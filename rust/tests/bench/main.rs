@@ -1,6 +1,7 @@
 //! Program `bench` from end to end: "The program". Here stand the frames that the tests share.
 
 mod frames;
+mod kinds;
 mod links;
 mod output;
 mod state;

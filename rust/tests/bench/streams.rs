@@ -2,8 +2,8 @@
 
 use dreelish_tests::framing::frame;
 use dreelish_tests::messages::{garbage, message, Scene};
-use dreelish_tests::paper::{self, LONGEST_REPLY};
-use dreelish_tests::program::{expected, Bench, Folder};
+use dreelish_tests::paper::{self, ModuleKind, LONGEST_REPLY};
+use dreelish_tests::program::{command, expected, Bench, Folder};
 use dreelish_tests::random::Random;
 
 use crate::assert_same;
@@ -16,18 +16,23 @@ const FRAMES: usize = 600;
 
 #[test]
 fn long_random_streams() {
+    compare(ModuleKind::Dimmer, &[]);
+}
+
+/// The program started with `words`, which should give it a module of that kind.
+pub fn compare(kind: ModuleKind, words: &[&str]) {
     for number in 0..STREAMS {
-        println!("seed {SEED:#X}, stream {number}");
+        println!("seed {SEED:#X}, stream {number}, {kind:?}");
         let mut random = Random::new(SEED, number);
-        let mut scene = Scene::bench(&mut random);
+        let mut scene = Scene::bench(kind, &mut random);
         let links = scene.links.clone();
         let stream = random_stream(&mut random, &mut scene, FRAMES);
         let folder = Folder::with_links(&links);
-        let mut bench = Bench::start(&folder);
+        let mut bench = Bench::start_command(command(&folder).args(words));
         for piece in pieces(&mut random, &stream) {
             bench.send(piece);
         }
-        let expected = expected(&links, &stream);
+        let expected = expected(kind, &links, &stream);
         assert!(
             expected.len() > 11 * FRAMES / 4,
             "there is too little to compare"

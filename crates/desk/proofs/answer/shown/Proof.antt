@@ -4,4 +4,5 @@ use Rattle.desk.proofs.answer.shown.Statement.{statement}
 use Rattle.desk.proofs.answer.shown.Tie as tie
 
 pub shown-spec : {M : Type 1} → statement M
-shown-spec = tie.close (tie.spec (λ c κs. search needs) (λ c. rw (c .number .ensures) refl))
+shown-spec =
+    tie.close (tie.spec (λ c κs. search needs) (λ c κs. search needs) (λ c. rw (c .load-shown .ensures, c .before .number .ensures) refl))

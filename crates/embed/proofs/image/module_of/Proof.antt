@@ -1,4 +1,5 @@
-use borrow.Author.Needs.{needs}
+use native.Mathlib.Omega.{arith}
+use Rattle.embed.proofs.Held.{long}
 use Rattle.embed.proofs.image.module_of.Statement.{statement}
 use Rattle.embed.proofs.image.module_of.Tie as tie
 
@@ -6,11 +7,11 @@ pub module-of-spec : {M : Type 1} → statement M
 module-of-spec =
     tie.close
     (tie.spec
-    (λ c κs. search needs)
-    (λ c. search needs)
-    (λ c. search needs)
-    (λ c. search needs)
-    (λ c. search needs)
-    (λ c. search needs)
-    (λ c κs. search needs)
-    (λ c. rw (c .lamp-of .ensures, c .before .before .before .before .before .before .identity-of .ensures)))
+    (λ c κs. long _ (c .before .pre))
+    (λ c. omega (arith, long _ (c .before .before .before .pre)))
+    (λ c. omega (arith, long _ (c .before .before .before .before .pre)))
+    (λ c. omega (arith, long _ (c .before .before .before .before .before .pre)))
+    (λ c. omega (arith, long _ (c .before .before .before .before .before .before .pre)))
+    (λ c. omega (arith, long _ (c .before .before .before .before .before .before .before .pre)))
+    (λ c κs. c .before .before .before .before .before .before .before .pre)
+    (λ c. rw (c .load-of .ensures, c .before .before .before .before .before .before .identity-of .ensures)))

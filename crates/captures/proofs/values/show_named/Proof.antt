@@ -1,0 +1,29 @@
+use Prim.Native.Nat.{_-_, _≤_}
+use native.Mathlib.Omega.{arith}
+use lib.ListN.{length}
+use Rattle.captures.proofs.values.show_named.Statement.{statement}
+use Rattle.captures.proofs.values.show_named.Tie as tie
+
+abbrev Inv-loop : tie.InvT-loop
+Inv-loop names before came place₀ at₀ place at = (place ≤ at) × (at ≤ length names)
+
+abbrev μ-loop : tie.MeasureT-loop
+μ-loop names before came place₀ at₀ place at = length names - at
+
+pub show-named-spec : {M : Type 1} → statement M
+show-named-spec =
+    tie.close
+    (tie.spec
+    Inv-loop
+    μ-loop
+    (λ c. omega arith)
+    (λ c. omega arith)
+    (λ c κs. omega arith)
+    (λ c. omega arith)
+    (λ c. omega arith)
+    (λ c. omega arith)
+    (λ c κs. tt)
+    (λ c. omega arith)
+    (λ c. omega arith)
+    (λ c. omega arith)
+    (λ c. tt))

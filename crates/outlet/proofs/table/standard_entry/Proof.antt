@@ -1,0 +1,17 @@
+use borrow.Author.Needs.{needs}
+use Rattle.outlet.proofs.table.standard_entry.Statement.{statement}
+use Rattle.outlet.proofs.table.standard_entry.Tie as tie
+
+pub standard-entry-spec : {M : Type 1} → statement M
+standard-entry-spec =
+    tie.close
+    (tie.spec
+    (λ c. search needs)
+    (λ c. search needs)
+    (λ c. search needs)
+    (λ c κs. search needs)
+    (λ c. search needs)
+    (λ c. rw (c .enum-told .given .1))
+    (λ c. rw (c .enum-told2 .given .1))
+    (λ c. rw (c .load-deed .ensures, c .before .before .command .given .1))
+    (λ c. rw (c .enum-told3 .given .1)))

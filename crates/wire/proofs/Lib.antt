@@ -1,6 +1,5 @@
 -- Laws of messages.
 pub mod Whole
-pub mod Complement
 pub mod Heard
 pub mod Numbered
 pub mod Commanded

@@ -1,19 +1,19 @@
-// The checksum of an extended message, as the notes work it: complement the column's sum, and add one.
+// The checksum of an extended message, as the blackboard has it: add up the whole column ("Message bytes").
 ghost use mathlib.Core.Path.{_≡_};
 ghost use lib.ListN.{length};
 ghost use Rattle.wire.specs.Checksum.{isSumRight, isExempt};
 
-// Whether Data 14 is what the column from Command 1 through Data 13 asks for.
+// What is added is the whole column, Command 1 through Data 14. The sender chose Data 14 so that it comes to a multiple of 256: a
+// column that leaves something over was altered on its way.
 pub(crate) fn is_sum_right(message: &[u8]) -> bool
     requires { ⌜ length (now message) ≡ 23 ⌝ }
     ensures { λ r. ⌜ r ≡ isSumRight (now (message .entry)) ⌝ }
 {
     let mut sum: usize = 0;
-    for i in 7..22 {
+    for i in 7..23 {
         sum += message[i] as usize;
     }
-    let complement = 255 - sum % 256;
-    (complement + 1) % 256 == message[22] as usize
+    sum % 256 == 0
 }
 
 // Get Properties and Get Database, which the captures send with 00 for a checksum.

@@ -45,7 +45,7 @@ fn print_messages() {
 }
 
 /// All records are live, and the linked sender's is the last, so that every search goes through all of them.
-fn cases(records: usize) -> [Case; 5] {
+fn cases(records: usize) -> [Case; 6] {
     let case = |name, kind, example: Example| Case {
         name,
         kind,
@@ -56,6 +56,8 @@ fn cases(records: usize) -> [Case; 5] {
     let on = |from| Example::direct(from, 0x11, 0x80);
     let mut get = [0x00; 14];
     get[2..4].copy_from_slice(&[0x0F, 0xFF]);
+    let mut summed = [0x00; 14];
+    summed[13] = 0xE0;
     [
         case("stranger, 11 80", dimmer, on(STRANGER)),
         case("linked, 11 80", dimmer, on(LINKED)),
@@ -63,6 +65,11 @@ fn cases(records: usize) -> [Case; 5] {
             "linked, all records",
             dimmer,
             Example::extended(LINKED, 0x2F, 0x00, get),
+        ),
+        case(
+            "linked, extended 20 00",
+            dimmer,
+            Example::extended(LINKED, 0x20, 0x00, summed),
         ),
         case("outlet, stranger, 11 80", outlet, on(STRANGER)),
         case("outlet, linked, 11 80", outlet, on(LINKED)),

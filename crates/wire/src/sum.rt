@@ -3,8 +3,8 @@ ghost use mathlib.Core.Path.{_≡_};
 ghost use lib.ListN.{length};
 ghost use Rattle.wire.specs.Checksum.{isSumRight, isExempt};
 
-// What is added is the whole column, Command 1 through Data 14. The sender chose Data 14 so that it comes to a multiple of 256: a
-// column that leaves something over was altered on its way.
+// What is added is the whole column, Command 1 through Data 14. The sender chose Data 14 so that it comes to a multiple of 256: where
+// something is left over, a byte was altered on its way, or the sender added wrongly.
 pub(crate) fn is_sum_right(message: &[u8]) -> bool
     requires { ⌜ length (now message) ≡ 23 ⌝ }
     ensures { λ r. ⌜ r ≡ isSumRight (now (message .entry)) ⌝ }

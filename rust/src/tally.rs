@@ -8,9 +8,10 @@ use crate::paper::ModuleKind;
 
 /// The rows that every kind can carry out.
 #[rustfmt::skip]
-const EVERY: [&str; 23] = [
+const EVERY: [&str; 25] = [
     "0D", "0F", "10", "11", "13", "19 00", "1F 00", "1F 01", "30",
-    "extended 20", "extended 2E, 00", "extended 2E, 04", "extended 2E, 07", "extended 2F, 00", "extended 2F, 02",
+    "extended 20", "extended 2E, 00", "extended 2E, 04", "extended 2E, 07",
+    "extended 2F, 00", "extended 2F, 02", "extended 2F, 00 at 0000", "extended 2F, 02 at 0000",
     "broadcast 11", "broadcast 12", "broadcast 13", "broadcast 14",
     "cleanup 11", "cleanup 12", "cleanup 13", "cleanup 14",
 ];
@@ -82,7 +83,7 @@ impl fmt::Display for Tally {
         }
         for row in &self.listed {
             let count = self.carried_out(row);
-            writeln!(f, "carried out {row:<15}: {count:>6}")?;
+            writeln!(f, "carried out {row:<23}: {count:>6}")?;
         }
         Ok(())
     }
@@ -94,6 +95,9 @@ fn name(message: &[u8]) -> String {
     match (message.kind(), message.data) {
         (Some(Kind::Broadcast), _) => format!("broadcast {command1:02X}"),
         (Some(Kind::Cleanup), _) => format!("cleanup {command1:02X}"),
+        (_, Some(data)) if command1 == 0x2F && [data.at(3), data.at(4)] == [0x00, 0x00] => {
+            format!("extended 2F, {:02X} at 0000", data.at(2))
+        }
         (_, Some(data)) if matches!(command1, 0x2E | 0x2F) => {
             format!("extended {command1:02X}, {:02X}", data.at(2))
         }

@@ -1,13 +1,13 @@
 // Names of records on the wire: what an address means stands here alone ("Link memory").
 ghost use mathlib.Core.Path.{_≡_};
-ghost use Rattle.links.specs.Name.{nameOf, placeOf};
+ghost use Rattle.links.specs.Name.{nameOf, meant, placeOf};
 
 pub enum Place {
     Record(usize),
     Illegal,
 }
 
-// The address that names record `k`, or 0 where there is none.
+// The address that record `k` is shown by, or 0 where there is none.
 pub fn name_of(k: usize) -> usize
     ensures { λ r. ⌜ r ≡ nameOf k ⌝ }
 {
@@ -18,10 +18,11 @@ pub fn name_of(k: usize) -> usize
 pub fn place_of(records: usize, address: usize) -> Place
     ensures { λ r. ⌜ r ≡ placeOf records address ⌝ }
 {
-    if 0x0fff < address {
+    let name = meant(address);
+    if 0x0fff < name {
         return Place::Illegal;
     }
-    let below = 0x0fff - address;
+    let below = 0x0fff - name;
     if below % 8 != 0 {
         return Place::Illegal;
     }
@@ -31,4 +32,11 @@ pub fn place_of(records: usize, address: usize) -> Place
     } else {
         Place::Illegal
     }
+}
+
+// Hub software asks from 0000 and means the first record (request 3).
+fn meant(address: usize) -> usize
+    ensures { λ r. ⌜ r ≡ meant address ⌝ }
+{
+    if address == 0x0000 { 0x0fff } else { address }
 }

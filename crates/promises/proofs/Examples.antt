@@ -6,7 +6,7 @@ use Rattle.basis.specs.Flags.{flagged}
 use Rattle.wire.specs.Commands.{standards, extendeds, groupCommandOf}
 use Rattle.wire.specs.Kinds.{kindOf}
 use Rattle.wire.specs.Reading.{readOf}
-use Rattle.links.specs.Name.{placeOf}
+use Rattle.links.specs.Name.{meant, placeOf}
 use Rattle.links.specs.Search.{stopOf}
 use Rattle.links.specs.Write.{writtenIfThere}
 use Rattle.reply.specs.Records.{recordsFrom, upToMark}
@@ -28,21 +28,21 @@ use Rattle.modem.specs.Stream.{cutBy}
 use Rattle.promises.specs.Bench.{withLevel, withRamp, fresh, us, linked, stranger, zeros}
 use Rattle.promises.specs.Bench.{first-record, other-record, memory, direct, long, cleanup, broadcast, reply, room}
 use Rattle.promises.specs.Table.{AllRight}
-use Rattle.promises.specs.Examples.{head, database, examples}
+use Rattle.promises.specs.Examples.{head, database, last, examples}
 use Rattle.promises.specs.Refusals.{ping, refusals}
 use Rattle.promises.specs.Outlets.{outlet, switched, record-of, to-top-off, to-bottom, to-neither, group-1}
 use Rattle.promises.specs.Outlets.{get, got, id, mute, answered, takes, refuses, outlets}
 use Rattle.promises.specs.Sequence.{calls, OneAfterTheOther, FrameAfterFrame}
 
 pub examples-right : AllRight examples
-unfolding choose firstFrom flagged standards extendeds groupCommandOf kindOf readOf placeOf stopOf writtenIfThere recordsFrom
+unfolding choose firstFrom flagged standards extendeds groupCommandOf kindOf readOf meant placeOf stopOf writtenIfThere recordsFrom
     upToMark statusDeed flagsTold percentDeed limited propertyDeed propertiesDeed propertyEntry propertiesEntry recordDeed
     databaseDeed directPlan rulingBy withLevel withRamp fresh us linked stranger zeros first-record other-record memory direct
-    long cleanup broadcast reply room head database examples
+    long cleanup broadcast reply room head database last examples
 examples-right = refl
 
 pub refusals-right : AllRight refusals
-unfolding choose firstFrom flagged standards extendeds groupCommandOf kindOf readOf placeOf stopOf writtenIfThere recordsFrom
+unfolding choose firstFrom flagged standards extendeds groupCommandOf kindOf readOf meant placeOf stopOf writtenIfThere recordsFrom
     upToMark statusDeed flagsTold percentDeed limited propertyDeed propertiesDeed propertyEntry propertiesEntry recordDeed
     databaseDeed directPlan rulingBy withLevel withRamp fresh us linked stranger zeros first-record other-record memory direct
     long cleanup broadcast reply room ping refusals
@@ -59,7 +59,7 @@ unfolding choose firstFrom standards kindOf readOf stopOf statusDeed percentDeed
 frame-after-frame = refl
 
 pub outlets-right : AllRight outlets
-unfolding choose firstFrom flagged standards extendeds groupCommandOf kindOf readOf placeOf stopOf writtenIfThere recordsFrom upToMark
+unfolding choose firstFrom flagged standards extendeds groupCommandOf kindOf readOf meant placeOf stopOf writtenIfThere recordsFrom upToMark
     statusDeed outlet-sockets.statusDeed flagsTold limited secondDeed fullOf bitOf outlet-properties.propertyEntry
     outlet-properties.propertiesEntry propertyDeed propertiesDeed recordDeed databaseDeed socketDeed directPlan rulingBy fresh us linked
     stranger zeros first-record other-record memory direct long cleanup broadcast reply room head database outlet switched record-of

@@ -84,7 +84,7 @@ planned m l s h = ruled-linked m l s (h .is-fit) (h .well-formed) (h .is-direct)
 pub taken : TakesEffect
 taken m l s room e h enough x = taken-looked-at m l s (h .well-formed) (planned m l s h) room e enough x
 
-unlisted : (m : Module) (l s room : List ℕ) → FromLinked m l s → 9 ≤ length room → deedIn m l s ≡ Deed.Unlisted → numberOf (stepOf m l s room .outcome) ≡ 7
+pub unlisted : (m : Module) (l s room : List ℕ) → FromLinked m l s → 9 ≤ length room → deedIn m l s ≡ Deed.Unlisted → numberOf (stepOf m l s room .outcome) ≡ 7
 unlisted m l s room h enough p = numbered-by m l s room Outcome.Unlisted _ (planned m l s h ∙ ap (deedPlan m (requestOf s)) p) enough
 
 pub outside : ElseSeven

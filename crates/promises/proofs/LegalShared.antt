@@ -24,7 +24,6 @@ use Rattle.links.specs.declared.name.Place.{Place}
 use Rattle.links.specs.Record.{records}
 use Rattle.links.specs.Name.{placeOf}
 use Rattle.links.specs.Write.{written, writtenIfThere}
-use Rattle.links.proofs.Named
 use Rattle.links.proofs.Written
 use Rattle.reply.specs.Records.{recordsFrom, countSent}
 use Rattle.reply.proofs.Positions.{counted, only}
@@ -40,15 +39,13 @@ use Rattle.promises.specs.Legal.{Effect, Short, shows, upward, Shared, p
 use Rattle.promises.specs.Legal.{set-flag, clear-flag, set-x10, set-led, get-database, set-database}
 use Rattle.promises.proofs.Ruled.{commandIn}
 use Rattle.promises.proofs.Brings.{Brings, short-command, long-command}
+use Rattle.promises.proofs.Names.{address, is-there, names-record, is-named}
 use Rattle.promises.proofs.Told.{Told, to-anybody, to-module, to-load, to-nobody}
 use Rattle.promises.proofs.Told.{ToldLong, to-turn-on, to-turn-off, to-set-flags, to-properties, to-database, to-none, by-command}
 
 module _ (m : Module) (l s : List ℕ) where
   abbrev deed : Command → Deed
   deed command = sharedDeed m (requestOf s) (dataOf s) (records l) command
-
-  abbrev address : ℕ
-  address = dataAt s 3 * 256 + dataAt s 4
 
   -- the records are laid one by one
   as-upward : (n k : ℕ) → recordsFrom (m .identity .address) (fromOf s) (dataAt s 1) l n k ≡ upward m l s n k
@@ -57,9 +54,6 @@ module _ (m : Module) (l s : List ℕ) where
   as-upward (suc n) k = ap (λ (z : List ℕ). shows m l s k ++ z) (as-upward n (k + 1))
 
   module _ (w : isWhole s ≡ true) where
-    names-record : (k : ℕ) → (k < records l) × (address + 8 * k ≡ 0x0fff) → placeOf (records l) address ≡ Place.Record k
-    names-record k y = Named.legal (records l) address k (y .0) (y .1)
-
     -- an extended message's data bytes are those from place 9 on
     data-bytes : isExtended s ≡ true → drop 5 (dataOf s) ≡ drop 14 s
     data-bytes x =
@@ -95,11 +89,11 @@ module _ (m : Module) (l s : List ℕ) where
         rw (long-command s 0x2e (x .0), x .1, x .2, le-leb 0x11 (dataAt s 3) y, le-leb (dataAt s 3) 0x7f z)
         (record { done = refl; next = refl; links = refl; reply = refl })
     shared-brings e (get-database x k y n z) =
-        let all : countSent l k (dataAt s 5) ≡ n = only l k (dataAt s 5) _ n (counted l k (dataAt s 5) (y .0)) z in
-        rw (long-command s 0x2f (x .0), x .1, x .2, names-record k y) (record { done = refl; next = refl; links = refl; reply = rw (all, as-upward n k) })
+        let all : countSent l k (dataAt s 5) ≡ n = only l k (dataAt s 5) _ n (counted l k (dataAt s 5) (is-there l s k y)) z in
+        rw (long-command s 0x2f (x .0), x .1, x .2, names-record l s k y) (record { done = refl; next = refl; links = refl; reply = rw (all, as-upward n k) })
     shared-brings e (set-database x k y z v) =
-        rw (long-command s 0x2f (x .0), x .1, x .2, names-record k y, le-leb 1 (dataAt s 5) z, le-leb (dataAt s 5) 8 v)
-        (record { done = refl; next = refl; links = write-there k (x .0 .0) (y .0) v; reply = refl })
+        rw (long-command s 0x2f (x .0), x .1, x .2, names-record l s k y, le-leb 1 (dataAt s 5) z, le-leb (dataAt s 5) 8 v)
+        (record { done = refl; next = refl; links = write-there k (x .0 .0) (is-there l s k y) v; reply = refl })
 
   -- a command is a row, or it is not listed
   pub data SharedJudged (deed : Deed) : Type 0 where
@@ -145,23 +139,23 @@ module _ (m : Module) (l s : List ℕ) where
       properties-judged = by SharedJudged (eqb (command2Of s) 0x00) (λ e. property-judged (eqb-true _ 0x00 e)) (λ _. other refl)
 
     module _ (y : command1Of s ≡ 0x2f) where
-      get-judged : command2Of s ≡ 0x00 → dataAt s 2 ≡ 0x00 → (place : Place) → placeOf (records l) address ≡ place → SharedJudged (getDeed (dataOf s) place)
+      get-judged : command2Of s ≡ 0x00 → dataAt s 2 ≡ 0x00 → (place : Place) → placeOf (records l) (address l s) ≡ place → SharedJudged (getDeed (dataOf s) place)
       get-judged z w (Place.Record k) e =
-          let there = Named.named (records l) address k e in
-          listed _ (get-database ((x, y), z, w) k there _ (counted l k (dataAt s 5) (there .0)))
+          let it = is-named l s k e in
+          listed _ (get-database ((x, y), z, w) k it _ (counted l k (dataAt s 5) (is-there l s k it)))
       get-judged z w Place.Illegal e = other refl
 
-      set-judged : command2Of s ≡ 0x00 → dataAt s 2 ≡ 0x02 → (place : Place) → placeOf (records l) address ≡ place → SharedJudged (setDeed (dataOf s) place)
+      set-judged : command2Of s ≡ 0x00 → dataAt s 2 ≡ 0x02 → (place : Place) → placeOf (records l) (address l s) ≡ place → SharedJudged (setDeed (dataOf s) place)
       set-judged z w (Place.Record k) e =
           by-limits SharedJudged 1 8 (dataAt s 5) _
-          (λ a b. listed _ (set-database ((x, y), z, w) k (Named.named (records l) address k e) a b)) (other refl)
+          (λ a b. listed _ (set-database ((x, y), z, w) k (is-named l s k e) a b)) (other refl)
       set-judged z w Place.Illegal e = other refl
 
       record-judged : command2Of s ≡ 0x00 → SharedJudged (recordDeed (dataOf s) (records l))
       unfolding recordDeed
       record-judged z =
-          by SharedJudged (eqb (dataAt s 2) 0x00) (λ e. get-judged z (eqb-true _ 0x00 e) (placeOf (records l) address) refl)
-          (λ _. by SharedJudged (eqb (dataAt s 2) 0x02) (λ e. set-judged z (eqb-true _ 0x02 e) (placeOf (records l) address) refl)
+          by SharedJudged (eqb (dataAt s 2) 0x00) (λ e. get-judged z (eqb-true _ 0x00 e) (placeOf (records l) (address l s)) refl)
+          (λ _. by SharedJudged (eqb (dataAt s 2) 0x02) (λ e. set-judged z (eqb-true _ 0x02 e) (placeOf (records l) (address l s)) refl)
           (λ _. other refl))
 
       database-judged : SharedJudged (databaseDeed (requestOf s) (dataOf s) (records l))

@@ -3,11 +3,13 @@ pub mod Examples
 pub mod Ruled
 pub mod Brings
 pub mod Told
+pub mod Names
 pub mod LegalShared
 pub mod Own
 pub mod LegalDimmer
 pub mod LegalOutlet
 pub mod Legal
+pub mod EitherName
 pub mod Demand1
 pub mod Demand2
 pub mod Stranger

@@ -1,4 +1,4 @@
--- The bench examples that are marked P ("Bench examples").
+-- The bench examples that are marked P ("Bench examples"), and those of request 3 behind P13, which they vary.
 use Prim.Native.Nat.{ℕ}
 use mathlib.Core.List.{List, [], _∷_, _++_}
 use Rattle.module.specs.Change.{withFlags, withDelta}
@@ -15,6 +15,10 @@ database =
     reply linked 0x2b 0x2f 0x00 ++
     (head ++ (0x07 ∷ 0x01 ∷ 0x0f ∷ 0xff ∷ 0x00 ∷ (first-record ++ (0x00 ∷ [])))) ++
     (head ++ (0x07 ∷ 0x01 ∷ 0x0f ∷ 0xf7 ∷ 0x00 ∷ (zeros 8 ++ (0x00 ∷ []))))
+
+-- the reply to Get from the last of 256 records, a blank one
+unfoldable pub last : List ℕ
+last = reply linked 0x2b 0x2f 0x00 ++ (head ++ (0x07 ∷ 0x01 ∷ 0x08 ∷ 0x07 ∷ 0x00 ∷ zeros 9))
 
 unfoldable pub examples : List Example
 examples =
@@ -111,6 +115,24 @@ examples =
     -- P13: room 54
     row fresh memory (long linked 0x2f 0x00 (0x07 ∷ 0x00 ∷ 0x0f ∷ 0xff ∷ zeros 10)) (room 54)
     5 [] 1 fresh memory (room 54) ∷
+    -- request 3: Get at 0000, which shows 0FFF
+    row fresh memory (long linked 0x2f 0x00 (0x07 ∷ 0x00 ∷ 0x00 ∷ 0x00 ∷ zeros 10)) (room 64)
+    0 database 1 fresh memory (database ++ room 9) ∷
+    -- request 3: Set at 0000
+    row fresh memory (long linked 0x2f 0x00 (0x01 ∷ 0x02 ∷ 0x00 ∷ 0x00 ∷ 0x08 ∷ (other-record ++ (0x1f ∷ [])))) (room 64)
+    0 (reply linked 0x2b 0x2f 0x00) 1 (withDelta 0x01 fresh) (other-record ++ zeros 8) (reply linked 0x2b 0x2f 0x00 ++ room 55) ∷
+    -- request 3: at 0001, 0007 and 0008
+    row fresh memory (long linked 0x2f 0x00 (0x07 ∷ 0x00 ∷ 0x00 ∷ 0x01 ∷ zeros 10)) (room 64)
+    7 (reply linked 0xab 0x2f 0xfb) 1 fresh memory (reply linked 0xab 0x2f 0xfb ++ room 55) ∷
+    row fresh memory (long linked 0x2f 0x00 (0x07 ∷ 0x00 ∷ 0x00 ∷ 0x07 ∷ zeros 10)) (room 64)
+    7 (reply linked 0xab 0x2f 0xfb) 1 fresh memory (reply linked 0xab 0x2f 0xfb ++ room 55) ∷
+    row fresh memory (long linked 0x2f 0x00 (0x01 ∷ 0x02 ∷ 0x00 ∷ 0x08 ∷ 0x08 ∷ (other-record ++ (0x17 ∷ [])))) (room 64)
+    7 (reply linked 0xab 0x2f 0xfb) 1 fresh memory (reply linked 0xab 0x2f 0xfb ++ room 55) ∷
+    -- request 3: of 256 records the last is named by 0807 as before, and none by 07FF
+    row fresh (first-record ++ zeros 2040) (long linked 0x2f 0x00 (0x07 ∷ 0x00 ∷ 0x08 ∷ 0x07 ∷ zeros 10)) (room 64)
+    0 last 1 fresh (first-record ++ zeros 2040) (last ++ room 32) ∷
+    row fresh (first-record ++ zeros 2040) (long linked 0x2f 0x00 (0x07 ∷ 0x00 ∷ 0x07 ∷ 0xff ∷ zeros 10)) (room 64)
+    7 (reply linked 0xab 0x2f 0xfb) 1 fresh (first-record ++ zeros 2040) (reply linked 0xab 0x2f 0xfb ++ room 55) ∷
     -- P14
     row fresh memory (broadcast linked (0x00 ∷ 0x00 ∷ 0x01 ∷ []) 0x11 0x00) (room 64)
     0 [] 1 (withLevel 0x80 fresh) memory (room 64) ∷

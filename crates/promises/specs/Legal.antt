@@ -39,9 +39,10 @@ module _ (s : List ℕ) where
   abbrev pub Asks : ℕ → ℕ → Type 0
   Asks c d2 = Long c × (command2Of s ≡ 0x00) × (dataAt s 2 ≡ d2)
 
-  -- Data 3 and 4 name record k of link memory l
-  abbrev Names : List ℕ → ℕ → Type 0
-  Names l k = (k < records l) × (dataAt s 3 * 256 + dataAt s 4 + 8 * k ≡ 0x0fff)
+  -- Data 3 and 4 name record k of link memory l: by 0FFF minus 8k, and record 0 by 0000 too
+  pub data Names (l : List ℕ) : ℕ → Type 0 where
+    by-place : (k : ℕ) → k < records l → dataAt s 3 * 256 + dataAt s 4 + 8 * k ≡ 0x0fff → Names l k
+    by-zero : 0 < records l → dataAt s 3 ≡ 0x00 → dataAt s 4 ≡ 0x00 → Names l 0
 
 -- replies of the module m
 module _ (m : Module) (s : List ℕ) where

@@ -13,6 +13,7 @@ pub mod Legal
 pub mod LegalDimmer
 pub mod LegalOutlet
 pub mod LegalAny
+pub mod Names
 pub mod Anybody
 pub mod Responders
 pub mod GroupsDimmer

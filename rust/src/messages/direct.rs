@@ -79,7 +79,7 @@ fn database(random: &mut Random, scene: &Scene, data: &mut [u8; 14]) {
     }
 }
 
-/// The name of a record on the wire; one in eight is a little or wholly wrong.
+/// The name of a record on the wire; one in six is the hubs' 0000, and about as many are a little or wholly wrong.
 fn name(random: &mut Random, scene: &Scene) -> [u8; 2] {
     let count = scene.records().clamp(1, 256);
     let k = random.below(count);
@@ -89,7 +89,9 @@ fn name(random: &mut Random, scene: &Scene) -> [u8; 2] {
         1 => [high ^ (0x10 << random.below(4)), low],
         2 => links::name(count),
         3 => random.bytes(),
-        4..=11 => links::name(0),
+        4 => [0x00, random.byte_in(0x01, 0x10)],
+        5..=9 => [0x00, 0x00],
+        10..=14 => links::name(0),
         _ => [high, low],
     }
 }

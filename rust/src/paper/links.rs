@@ -5,6 +5,8 @@ use super::module::Address;
 pub const RECORD: usize = 8;
 const LONGEST: usize = 2048;
 const FIRST_NAME: u16 = 0x0FFF;
+/// Request 3: what hub software calls the first record.
+const HUBS_FIRST_NAME: u16 = 0x0000;
 
 const IN_USE: u8 = 0x80;
 const CONTROLLER: u8 = 0x40;
@@ -63,13 +65,19 @@ fn search(records: &[Record], wanted: impl Fn(&Record) -> bool) -> Search<'_> {
     }
 }
 
-/// The name of record `k` on the wire.
+/// The name that record `k` is shown by.
 pub fn name(k: usize) -> [u8; 2] {
     (FIRST_NAME - (RECORD * k) as u16).to_be_bytes()
 }
 
 /// Which of `count` records a name means; most names mean none.
 pub fn named(name: [u8; 2], count: usize) -> Option<usize> {
-    let below = usize::from(FIRST_NAME.checked_sub(u16::from_be_bytes(name))?);
-    (below.is_multiple_of(RECORD) && below / RECORD < count).then_some(below / RECORD)
+    let k = match u16::from_be_bytes(name) {
+        HUBS_FIRST_NAME => 0,
+        name => {
+            let below = usize::from(FIRST_NAME.checked_sub(name)?);
+            below.is_multiple_of(RECORD).then_some(below / RECORD)?
+        }
+    };
+    (k < count).then_some(k)
 }

@@ -1,10 +1,9 @@
 -- Record 0 may be named by 0000 or by 0FFF, and no record by another address than these and its own.
-use Prim.Native.Nat.{ℕ, _+_, _*_, _%_, _≤_, _<_}
+use Prim.Native.Nat.{ℕ, _+_, _*_, _%_, _≤_}
 use mathlib.Core.Path.{_≡_, refl, sym, _∙_, ap, subst}
 use mathlib.Core.Bool.{Bool, true, false, not, _&&_, _||_}
-use mathlib.Core.List.{List, [], _∷_, _++_}
-use native.Mathlib.Omega.{arith}
-use lib.ListN.{length, take, drop}
+use mathlib.Core.List.{List, [], _∷_}
+use lib.ListN.{take, drop}
 use lib.Seq.{take-append-le}
 use borrow.Author.Tests.{eq-eqb, le-leb}
 use Rattle.basis.specs.Choice.{choose}
@@ -26,7 +25,6 @@ use Rattle.wire.specs.Reading.{bare, readOf}
 use Rattle.links.specs.declared.name.Place.{Place}
 use Rattle.links.specs.Record.{isFit, records}
 use Rattle.links.specs.Name.{placeOf}
-use Rattle.links.specs.Search.{searchOf, isFound}
 use Rattle.links.specs.Write.{writtenIfThere}
 use Rattle.links.proofs.Named.{first-named, illegal, itself}
 use Rattle.module.specs.declared.state.Load.{Load}
@@ -46,7 +44,7 @@ use Rattle.decide.specs.Ruling.{rulingBy}
 use Rattle.device.specs.Step.{Step, linksAfter, finishOf, stepOf}
 use Rattle.promises.specs.Legal.{Long}
 use Rattle.promises.specs.Names.{asking, Fits, unchecked, checked, EitherName, NoOtherName}
-use Rattle.promises.proofs.Ruled.{commandIn, deedIn}
+use Rattle.promises.proofs.Ruled.{deedIn}
 use Rattle.promises.proofs.Brings.{long-command}
 use Rattle.promises.proofs.Legal.{unlisted}
 

@@ -2,7 +2,6 @@
 use Prim.Native.Nat.{ℕ, _+_, _*_, _%_, _<_, _≤_}
 use mathlib.Core.Path.{_≡_}
 use mathlib.Core.List.{List, [], _∷_, _++_}
-use mathlib.Core.Logic.{_⊎_}
 use lib.ListN.{length, drop}
 use Rattle.wire.specs.Bytes.{command1Of, dataAt}
 use Rattle.wire.specs.Checksum.{sumOf}

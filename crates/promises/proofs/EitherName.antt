@@ -78,6 +78,16 @@ fits s c (checked z) =
     let right : isSumRight s ≡ true = eq-eqb (sumOf (drop 7 s) % 256) 0 z in
     ap (λ (b : Bool). (isExtended s && not (isExempt s)) && not b) right ∙ closed (isExtended s && not (isExempt s))
 
+-- a whole extended direct message with Command 1 = 2F and no wrong sum is heard as a database command, unless it is for another module
+as-database-read : (u : List ℕ) (own : Address) → isWhole u ≡ true → isExtended u ≡ true → isDirect u ≡ true → command1Of u ≡ 0x2f → isSumWrong u ≡ false
+    → readOf u own
+    ≡ choose (isForeign u own) (bare (Reading.Heard MessageKind.Foreign))
+    (record { reading = Reading.Heard (MessageKind.Direct (requestOf u) database); «data» = dataOf u })
+unfolding readOf choose kindOf extendeds
+as-database-read u own whole p v c sum =
+    let kind : kindOf u ≡ MessageKind.Direct (requestOf u) database = rw (v, p, c) in
+    rw (whole, sum, kind)
+
 -- messages by 0000 and by 0FFF, and the data bytes of each
 module _ (m : Module) (l room h r : List ℕ) (x y : ℕ) where
   abbrev s : List ℕ
@@ -179,26 +189,14 @@ module _ (m : Module) (l room h r : List ℕ) (x y : ℕ) where
   not-direct p v = rw (foreign p v)
 
   -- else both are heard as database commands, unless they are for another module
-  module _ (c : command1Of s ≡ 0x2f) (p : isExtended s ≡ true) (v : isDirect s ≡ true) (sum-s : isSumWrong s ≡ false) (sum-t : isSumWrong t ≡ false) where
-    read-s : readOf s own ≡ choose (isForeign s own) (bare (Reading.Heard MessageKind.Foreign)) (heardAs d)
-    unfolding readOf choose kindOf extendeds
-    read-s =
-        let whole : isWhole s ≡ true = rw p in
-        let kind : kindOf s ≡ MessageKind.Direct q database = rw (v, p, c) in
-        rw (whole, sum-s, kind)
-
-    read-t : readOf t own ≡ choose (isForeign t own) (bare (Reading.Heard MessageKind.Foreign)) (heardAs e)
-    unfolding readOf choose kindOf extendeds
-    read-t =
-        let whole : isWhole t ≡ true = rw p in
-        let kind : kindOf t ≡ MessageKind.Direct q database = rw (v, p, c) in
-        rw (whole, sum-t, kind)
-
-    both-heard : stepOf m l s room ≡ stepOf m l t room
-    both-heard =
-        ap outcome read-s
-        ∙ beside (λ (a b : Message). outcome a ≡ outcome b) (isForeign s own) refl served
-        ∙ sym (ap outcome read-t)
+  both-heard : command1Of s ≡ 0x2f → isExtended s ≡ true → isDirect s ≡ true → isSumWrong s ≡ false → isSumWrong t ≡ false → stepOf m l s room ≡ stepOf m l t room
+  unfolding choose
+  both-heard c p v sum-s sum-t =
+      let whole-s : isWhole s ≡ true = rw p in
+      let whole-t : isWhole t ≡ true = rw p in
+      ap outcome (as-database-read s own whole-s p v c sum-s)
+      ∙ beside (λ (a b : Message). outcome a ≡ outcome b) (isForeign s own) refl served
+      ∙ sym (ap outcome (as-database-read t own whole-t p v c sum-t))
 
   by-either : command1Of h ≡ 0x2f → Fits s → Fits t → stepOf m l s room ≡ stepOf m l t room
   by-either c f g = go (isExtended s) (isDirect s) refl refl

@@ -125,7 +125,7 @@ fn any_byte_but_00_is_a_socket_that_is_on() {
             image[13..].copy_from_slice(&[top, bottom]);
             let mut lent = Lent::new(&image, 2);
             assert_eq!(lent.call(&BOTH_SOCKETS), 0);
-            assert_eq!(lent.room[6..9], [0x2B, 0x00, shown]);
+            assert_eq!(lent.room[6..9], [0x2F, 0x00, shown]);
             image[13..].copy_from_slice(&[top.min(1), bottom.min(1)]);
             assert_eq!(lent.image, image);
         }

@@ -35,7 +35,7 @@ fn standard_11_and_13_switch_the_top_socket_and_leave_command_2_unread() {
     for (top, bottom) in STATES {
         for command2 in [0x00, 0x01, 0x80, 0xFF] {
             for (command1, on) in [(0x11, true), (0x13, false)] {
-                let ack = reply(LINKED, 0x2B, command1, command2);
+                let ack = reply(LINKED, 0x2F, command1, command2);
                 direct(command1, command2)
                     .starting(|module| set(module, top, bottom))
                     .comes_to(0, 1, &ack, |comes| set(&mut comes.module, on, bottom));
@@ -48,13 +48,13 @@ fn standard_11_and_13_switch_the_top_socket_and_leave_command_2_unread() {
 fn extended_11_and_13_with_02_switch_the_bottom_socket() {
     for (top, bottom) in STATES {
         for (command1, data14, on) in [(0x11, 0xED, true), (0x13, 0xEB, false)] {
-            let ack = reply(LINKED, 0x2B, command1, 0x00);
+            let ack = reply(LINKED, 0x2F, command1, 0x00);
             extended(command1, 0x00, [0x02, 0x00, 0x00], data14)
                 .starting(|module| set(module, top, bottom))
                 .comes_to(0, 1, &ack, |comes| set(&mut comes.module, top, on));
         }
     }
-    let ack = reply(LINKED, 0x2B, 0x11, 0x80);
+    let ack = reply(LINKED, 0x2F, 0x11, 0x80);
     extended(0x11, 0x80, [0x02, 0x00, 0x00], 0x6D)
         .comes_to(0, 1, &ack, |comes| set(&mut comes.module, false, true));
 }
@@ -67,9 +67,9 @@ fn the_bottom_socket_needs_its_checksum_and_its_number() {
     for data1 in (0x00..=0xFF_u8).filter(|&data1| data1 != 0x02) {
         let on = 0xEF_u8.wrapping_sub(data1);
         let off = 0xED_u8.wrapping_sub(data1);
-        let nak = reply(LINKED, 0xAB, 0x11, 0xFB);
+        let nak = reply(LINKED, 0xAF, 0x11, 0xFB);
         extended(0x11, 0x00, [data1, 0x00, 0x00], on).only_answers(7, 1, &nak);
-        let nak = reply(LINKED, 0xAB, 0x13, 0xFB);
+        let nak = reply(LINKED, 0xAF, 0x13, 0xFB);
         extended(0x13, 0x00, [data1, 0x00, 0x00], off).only_answers(7, 1, &nak);
     }
 }
@@ -78,9 +78,9 @@ fn the_bottom_socket_needs_its_checksum_and_its_number() {
 fn a_dimmer_has_no_bottom_socket() {
     let mut data = [0x00; 14];
     (data[0], data[13]) = (0x02, 0xED);
-    let nak = reply(LINKED, 0xAB, 0x11, 0xFB);
+    let nak = reply(LINKED, 0xAF, 0x11, 0xFB);
     Example::extended(LINKED, 0x11, 0x00, data).only_answers(7, 1, &nak);
-    let nak = reply(LINKED, 0xAB, 0x19, 0xFB);
+    let nak = reply(LINKED, 0xAF, 0x19, 0xFB);
     Example::direct(LINKED, 0x19, 0x01).only_answers(7, 1, &nak);
 }
 
@@ -93,7 +93,7 @@ fn status_shows_the_top_socket_and_both() {
         (STATES[3], 0xFF, 0x03),
     ] {
         for (command2, shown) in [(0x00, of_top), (0x01, of_both)] {
-            let ack = reply(LINKED, 0x2B, 0x07, shown);
+            let ack = reply(LINKED, 0x2F, 0x07, shown);
             direct(0x19, command2)
                 .starting(|module| {
                     set(module, top, bottom);
@@ -106,7 +106,7 @@ fn status_shows_the_top_socket_and_both() {
 
 #[test]
 fn a_stranger_is_refused_and_may_ask_who_is_there() {
-    let nak = reply(STRANGER, 0xAB, 0x11, 0xFF);
+    let nak = reply(STRANGER, 0xAF, 0x11, 0xFF);
     Example::direct(STRANGER, 0x11, 0x80)
         .to_outlet()
         .only_answers(6, 2, &nak);
@@ -115,13 +115,13 @@ fn a_stranger_is_refused_and_may_ask_who_is_there() {
     Example::extended(STRANGER, 0x11, 0x00, data)
         .to_outlet()
         .only_answers(6, 2, &nak);
-    let ack = reply(STRANGER, 0x2B, 0x0F, 0x00);
+    let ack = reply(STRANGER, 0x2F, 0x0F, 0x00);
     Example::direct(STRANGER, 0x0F, 0x00)
         .to_outlet()
         .only_answers(0, 0, &ack);
     #[rustfmt::skip]
     let id = [
-        0x00, 0x10, 0x3A, 0x11, 0x22, 0x33, 0x2B, 0x10, 0x00,
+        0x00, 0x10, 0x3A, 0x11, 0x22, 0x33, 0x2F, 0x10, 0x00,
         0x00, 0x10, 0x3A, 0x02, 0x39, 0xC2, 0x8F, 0x01, 0x00,
     ];
     Example::direct(STRANGER, 0x10, 0x00)
@@ -144,14 +144,14 @@ fn commands_that_are_not_legal_here() {
         (0x19, 0x02),
     ];
     for (command1, command2) in unlisted {
-        let nak = reply(LINKED, 0xAB, command1, 0xFB);
+        let nak = reply(LINKED, 0xAF, command1, 0xFB);
         direct(command1, command2).only_answers(7, 1, &nak);
-        let nak = reply(STRANGER, 0xAB, command1, 0xFF);
+        let nak = reply(STRANGER, 0xAF, command1, 0xFF);
         Example::direct(STRANGER, command1, command2)
             .to_outlet()
             .only_answers(6, 2, &nak);
     }
-    let nak = reply(LINKED, 0xAB, 0x2E, 0xFB);
+    let nak = reply(LINKED, 0xAF, 0x2E, 0xFB);
     extended(0x2E, 0x00, [0x00, 0x05, 0x1F], 0xAE).only_answers(7, 1, &nak);
     extended(0x2E, 0x00, [0x00, 0x06, 0x40], 0x8C).only_answers(7, 1, &nak);
 }
@@ -160,8 +160,8 @@ fn commands_that_are_not_legal_here() {
 fn properties_show_the_fresh_ramp_and_on_level() {
     #[rustfmt::skip]
     let shown = [
-        0x00, 0x10, 0x3A, 0xAA, 0xBB, 0xCC, 0x2B, 0x2E, 0x00,
-        0x00, 0x10, 0x3A, 0xAA, 0xBB, 0xCC, 0x11, 0x2E, 0x00,
+        0x00, 0x10, 0x3A, 0xAA, 0xBB, 0xCC, 0x2F, 0x2E, 0x00,
+        0x00, 0x10, 0x3A, 0xAA, 0xBB, 0xCC, 0x1F, 0x2E, 0x00,
         0x09, 0x01, 0x00, 0x00, 0x20, 0x20, 0x1F, 0xFF, 0x3F, 0x00, 0x01, 0x00, 0x00, 0x00,
     ];
     for (top, bottom) in STATES {
@@ -169,7 +169,7 @@ fn properties_show_the_fresh_ramp_and_on_level() {
             .starting(|module| set(module, top, bottom))
             .only_answers(0, 1, &shown);
     }
-    let ack = reply(LINKED, 0x2B, 0x2E, 0x00);
+    let ack = reply(LINKED, 0x2F, 0x2E, 0x00);
     extended(0x2E, 0x00, [0x00, 0x07, 0x11], 0xBA)
         .comes_to(0, 1, &ack, |comes| comes.module.led = 0x11);
 }
@@ -183,7 +183,7 @@ fn load_sense_is_stored_by_the_flag_rule() {
         (0x06, 0xDA, 0x00, 0x08),
         (0x07, 0xD9, 0xFF, 0xF7),
     ] {
-        let ack = reply(LINKED, 0x2B, 0x20, command2);
+        let ack = reply(LINKED, 0x2F, 0x20, command2);
         extended(0x20, command2, [0x00; 3], data14)
             .starting(|module| module.flags = before)
             .comes_to(0, 1, &ack, |comes| comes.module.flags = after);
@@ -193,21 +193,21 @@ fn load_sense_is_stored_by_the_flag_rule() {
 /// The commands that every kind has answer as a dimmer's do.
 #[test]
 fn what_every_kind_does() {
-    let ack = reply(LINKED, 0x2B, 0x0D, 0x02);
+    let ack = reply(LINKED, 0x2F, 0x0D, 0x02);
     direct(0x0D, 0x00).only_answers(0, 1, &ack);
-    let ack = reply(LINKED, 0x2B, 0x1F, 0x5A);
+    let ack = reply(LINKED, 0x2F, 0x1F, 0x5A);
     direct(0x1F, 0x00)
         .starting(|module| module.flags = 0x5A)
         .only_answers(0, 1, &ack);
     direct(0x1F, 0x01)
         .starting(|module| module.delta = 0x5A)
         .only_answers(0, 1, &ack);
-    let ack = reply(LINKED, 0x2B, 0x30, 0x03);
+    let ack = reply(LINKED, 0x2F, 0x30, 0x03);
     direct(0x30, 0x03).only_answers(0, 1, &ack);
     let data = [
         0x01, 0x02, 0x0F, 0xFF, 0x08, 0xE2, 0x01, 0x08, 0xB6, 0xEA, 0x00, 0x1B, 0x01, 0x11,
     ];
-    let ack = reply(LINKED, 0x2B, 0x2F, 0x00);
+    let ack = reply(LINKED, 0x2F, 0x2F, 0x00);
     Example::extended(LINKED, 0x2F, 0x00, data)
         .to_outlet()
         .comes_to(0, 1, &ack, |comes| {
@@ -236,7 +236,7 @@ fn groups_switch_the_socket_that_the_record_names() {
                     .room(0)
                     .starting(|module| set(module, top, bottom))
                     .comes_to(0, 1, &[], |comes| set(&mut comes.module, after.0, after.1));
-                let ack = reply(LINKED, 0x6B, command1, 0x01);
+                let ack = reply(LINKED, 0x6F, command1, 0x01);
                 Example::cleanup(LINKED, command1, 0x01)
                     .to_outlet()
                     .links(&links)
@@ -256,7 +256,7 @@ fn a_record_that_names_neither_socket() {
                 .to_outlet()
                 .links(&links)
                 .only_answers(8, 1, &[]);
-            let nak = reply(LINKED, 0xEB, command1, 0xFB);
+            let nak = reply(LINKED, 0xEF, command1, 0xFB);
             Example::cleanup(LINKED, command1, 0x01)
                 .to_outlet()
                 .links(&links)
@@ -278,7 +278,7 @@ fn the_first_record_decides() {
 
 #[test]
 fn groups_without_a_record() {
-    let nak = reply(LINKED, 0xEB, 0x11, 0xFF);
+    let nak = reply(LINKED, 0xEF, 0x11, 0xFF);
     Example::cleanup(LINKED, 0x11, 0x02)
         .to_outlet()
         .only_answers(6, 2, &nak);
@@ -288,7 +288,7 @@ fn groups_without_a_record() {
     Example::broadcast(LINKED, 0x15, 0x01)
         .to_outlet()
         .only_answers(8, 0, &[]);
-    let nak = reply(LINKED, 0xEB, 0x15, 0xFB);
+    let nak = reply(LINKED, 0xEF, 0x15, 0xFB);
     Example::cleanup(LINKED, 0x15, 0x01)
         .to_outlet()
         .only_answers(7, 1, &nak);

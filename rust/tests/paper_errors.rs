@@ -18,7 +18,7 @@ fn record_with(flags: u8) -> Vec<u8> {
 fn a_buried_record_opens_nothing() {
     let mut links = vec![0x00; 8];
     links.extend(LINKS);
-    let nak = reply(LINKED, 0xAB, 0x11, 0xFF);
+    let nak = reply(LINKED, 0xAF, 0x11, 0xFF);
     for on in to_each(Example::direct(LINKED, 0x11, 0x80).links(&links)) {
         on.only_answers(6, 1, &nak);
     }
@@ -29,7 +29,7 @@ fn a_buried_record_opens_nothing() {
 
 #[test]
 fn an_end_mark_is_known_by_bit_1_alone() {
-    let nak = reply(LINKED, 0xAB, 0x11, 0xFF);
+    let nak = reply(LINKED, 0xAF, 0x11, 0xFF);
     for flags in (0x00..=0xFF).filter(|flags| flags & 0x02 == 0) {
         for on in to_each(Example::direct(LINKED, 0x11, 0x80).links(&record_with(flags))) {
             on.only_answers(6, 1, &nak);
@@ -39,7 +39,7 @@ fn an_end_mark_is_known_by_bit_1_alone() {
 
 #[test]
 fn a_record_out_of_use_is_passed_by() {
-    let nak = reply(LINKED, 0xAB, 0x11, 0xFF);
+    let nak = reply(LINKED, 0xAF, 0x11, 0xFF);
     for on in to_each(Example::direct(LINKED, 0x11, 0x80).links(&record_with(0x22))) {
         on.only_answers(6, 2, &nak);
     }
@@ -47,13 +47,13 @@ fn a_record_out_of_use_is_passed_by() {
 
 #[test]
 fn the_link_comes_before_the_number() {
-    let nak = reply(STRANGER, 0xAB, 0x39, 0xFF);
+    let nak = reply(STRANGER, 0xAF, 0x39, 0xFF);
     for percent in to_each(Example::direct(STRANGER, 0x39, 0x65)) {
         percent.only_answers(6, 2, &nak);
     }
     let mut data = [0x00; 14];
     (data[0], data[13]) = (0x03, 0xEC);
-    let nak = reply(STRANGER, 0xAB, 0x11, 0xFF);
+    let nak = reply(STRANGER, 0xAF, 0x11, 0xFF);
     for third_socket in to_each(Example::extended(STRANGER, 0x11, 0x00, data)) {
         third_socket.only_answers(6, 2, &nak);
     }
@@ -65,11 +65,11 @@ fn a_controller_record_is_no_responder() {
     for on in to_each(Example::broadcast(LINKED, 0x11, 0x01).links(&controller)) {
         on.only_answers(8, 2, &[]);
     }
-    let nak = reply(LINKED, 0xEB, 0x11, 0xFF);
+    let nak = reply(LINKED, 0xEF, 0x11, 0xFF);
     for on in to_each(Example::cleanup(LINKED, 0x11, 0x01).links(&controller)) {
         on.only_answers(6, 2, &nak);
     }
-    let ack = reply(LINKED, 0x2B, 0x11, 0x80);
+    let ack = reply(LINKED, 0x2F, 0x11, 0x80);
     let [dimmer, outlet] = to_each(Example::direct(LINKED, 0x11, 0x80).links(&controller));
     dimmer.comes_to(0, 1, &ack, |comes| lamp(&mut comes.module).level = 0x80);
     outlet.comes_to(0, 1, &ack, |comes| sockets(&mut comes.module).top = true);
@@ -80,7 +80,7 @@ fn extended_2e_sets_no_level() {
     let mut data = [0x00; 14];
     data[1..3].copy_from_slice(&[0x06, 0x40]);
     data[13] = 0x8C;
-    let ack = reply(LINKED, 0x2B, 0x2E, 0x00);
+    let ack = reply(LINKED, 0x2F, 0x2E, 0x00);
     Example::extended(LINKED, 0x2E, 0x00, data)
         .comes_to(0, 1, &ack, |comes| lamp(&mut comes.module).on_level = 0x40);
 }

@@ -15,7 +15,7 @@ use Rattle.module.specs.declared.plan.Plan.{Plan}
 
 -- a standard reply to a request
 abbrev pub headed : ReplyType → Request → ℕ → ℕ → Head
-headed type r command1 command2 = record { «reply_type» = type; to = r .from; command1 = command1; command2 = command2 }
+headed type r command1 command2 = record { «reply_type» = type; to = r .from; hops = r .hops; command1 = command1; command2 = command2 }
 
 -- carried out
 abbrev pub done : Change → Due → Plan

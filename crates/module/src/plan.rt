@@ -27,6 +27,7 @@ pub fn headed(reply_type: ReplyType, r: Request, command1: u8, command2: u8) -> 
     Head {
         reply_type: reply_type,
         to: from,
+        hops: r.hops,
         command1: command1,
         command2: command2,
     }

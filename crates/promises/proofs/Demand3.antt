@@ -19,7 +19,7 @@ use Rattle.links.specs.Record.{isFit, records}
 use Rattle.links.specs.Live.{Linked}
 use Rattle.links.proofs.Linked.{linked-or-not}
 use Rattle.reply.specs.declared.due.ReplyType.{ReplyType}
-use Rattle.reply.specs.Message.{standard}
+use Rattle.reply.specs.Message.{replyFlags, standard}
 use Rattle.reply.specs.Reply.{replyOf}
 use Rattle.module.specs.declared.state.Identity.{Identity}
 use Rattle.module.specs.declared.state.Module.{Module}
@@ -55,15 +55,15 @@ module _ (m : Module) (l s room : List ℕ) where
   room-by : stepOf m l s room .room ≡ roomWhere room (dueTo m l s)
   room-by = beside (λ (t : Step) (bytes : List ℕ). t .room ≡ bytes) _ refl refl
 
--- a command that is looked at is never answered with FF: byte 6 of the reply is 2B, or its Command 2 is FB
+-- a command that is looked at is never answered with FF: byte 6 of the reply is an ACK's, or its Command 2 is FB
 module _ (m : Module) (l : List ℕ) (r : Request) where
   abbrev nak : List ℕ
-  nak = standard (m .identity .address) (r .from) ReplyType.Nak (r .command1) 0xff
+  nak = standard (m .identity .address) (r .from) ReplyType.Nak (r .hops) (r .command1) 0xff
 
   abbrev dueOf : Plan → List ℕ
   dueOf p = replyOf (m .identity .address) l (p .due)
 
-  ack-or-nak : {A : Type 0} → _≡_ {A = ℕ} 0x2b 0xab → A
+  ack-or-nak : {A : Type 0} → replyFlags ReplyType.Ack (r .hops) ≡ replyFlags ReplyType.Nak (r .hops) → A
   ack-or-nak q = absurd (omega arith)
 
   not-ff : (deed : Deed) → dueOf (deedPlan m r deed) ≡ nak → ⊥

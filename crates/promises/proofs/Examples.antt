@@ -32,6 +32,7 @@ use Rattle.promises.specs.Examples.{head, database, last, examples}
 use Rattle.promises.specs.Refusals.{ping, refusals}
 use Rattle.promises.specs.Outlets.{outlet, switched, record-of, to-top-off, to-bottom, to-neither, group-1}
 use Rattle.promises.specs.Outlets.{get, got, id, mute, answered, takes, refuses, outlets}
+use Rattle.promises.specs.Hops.{flagged-by, shown-by, id-by, each-type, hop-examples}
 use Rattle.promises.specs.Sequence.{calls, OneAfterTheOther, FrameAfterFrame}
 
 pub examples-right : AllRight examples
@@ -65,3 +66,8 @@ unfolding choose firstFrom flagged standards extendeds groupCommandOf kindOf rea
     stranger zeros first-record other-record memory direct long cleanup broadcast reply room head database outlet switched record-of
     to-top-off to-bottom to-neither group-1 get got id mute answered takes refuses outlets
 outlets-right = refl
+
+pub hops-right : AllRight hop-examples
+unfolding choose firstFrom standards extendeds groupCommandOf kindOf readOf stopOf percentDeed propertyEntry propertiesEntry directPlan
+    rulingBy withLevel fresh us linked stranger zeros first-record memory reply room flagged-by shown-by id-by each-type hop-examples
+hops-right = refl

@@ -17,7 +17,7 @@ use Rattle.wire.specs.declared.command.OpenCommand.{OpenCommand}
 use Rattle.wire.specs.declared.command.ModuleCommand.{ModuleCommand}
 use Rattle.wire.specs.declared.command.Extended.{Extended}
 use Rattle.wire.specs.declared.command.Command.{Command}
-use Rattle.wire.specs.Bytes.{fromOf, command1Of, command2Of, requestOf, dataAt, dataOf, isExtended, isWhole}
+use Rattle.wire.specs.Bytes.{fromOf, hopsOf, command1Of, command2Of, requestOf, dataAt, dataOf, isExtended, isWhole}
 use Rattle.wire.specs.Commands.{standards, extendeds}
 use Rattle.wire.proofs.Whole.{by-length}
 use Rattle.links.specs.declared.name.Place.{Place}
@@ -48,7 +48,7 @@ module _ (m : Module) (l s : List ℕ) where
   deed command = sharedDeed m (requestOf s) (dataOf s) (records l) command
 
   -- the records are laid one by one
-  as-upward : (n k : ℕ) → recordsFrom (m .identity .address) (fromOf s) (dataAt s 1) l n k ≡ upward m l s n k
+  as-upward : (n k : ℕ) → recordsFrom (m .identity .address) (fromOf s) (hopsOf s) (dataAt s 1) l n k ≡ upward m l s n k
   unfolding recordsFrom upward
   as-upward zero k = refl
   as-upward (suc n) k = ap (λ (z : List ℕ). shows m l s k ++ z) (as-upward n (k + 1))

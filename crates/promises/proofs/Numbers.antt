@@ -10,7 +10,7 @@ use lib.ListN.{length}
 use borrow.Author.Tests.{eqb-true, ltb-true, ltb-false}
 use Rattle.basis.specs.Choice.{choose}
 use Rattle.basis.proofs.Tests.{clash}
-use Rattle.wire.specs.Bytes.{fromOf, toOf, command1Of, command2Of, requestOf, dataOf}
+use Rattle.wire.specs.Bytes.{fromOf, hopsOf, toOf, command1Of, command2Of, requestOf, dataOf}
 use Rattle.wire.specs.Commands.{groupCommandOf}
 use Rattle.wire.specs.Kinds.{typeOf, isDirect, isCleanup, isBroadcast}
 use Rattle.wire.specs.Reading.{readOf}
@@ -104,11 +104,11 @@ module _ (m : Module) (l s : List ℕ) where
     is-call b n = holds (calls s (groupCommandOf (command1Of s))) (λ e. (b, uncalled s unfit-to unfit-command e)) n
 
   -- the type of the NAK
-  nak-direct : isDirect s ≡ true → (x : ℕ) → nakOf m s x ≡ standard (m .identity .address) (fromOf s) ReplyType.Nak (command1Of s) x
+  nak-direct : isDirect s ≡ true → (x : ℕ) → nakOf m s x ≡ standard (m .identity .address) (fromOf s) ReplyType.Nak (hopsOf s) (command1Of s) x
   unfolding choose
   nak-direct d x = rw (eqb-true (typeOf s) 0 d)
 
-  nak-cleanup : isCleanup s ≡ true → (x : ℕ) → nakOf m s x ≡ standard (m .identity .address) (fromOf s) ReplyType.CleanupNak (command1Of s) x
+  nak-cleanup : isCleanup s ≡ true → (x : ℕ) → nakOf m s x ≡ standard (m .identity .address) (fromOf s) ReplyType.CleanupNak (hopsOf s) (command1Of s) x
   unfolding choose
   nak-cleanup c x = rw c
 

@@ -1,5 +1,5 @@
 -- Flags, LED, ramp rate and on level steer nothing, and hops are not read.
-use Prim.Native.Nat.{ℕ, _/_}
+use Prim.Native.Nat.{ℕ, _/_, _%_}
 use mathlib.Core.Path.{_≡_, refl, sym, ap, subst}
 use mathlib.Core.Bool.{true, false, _||_}
 use mathlib.Core.List.{List, _∷_}
@@ -315,13 +315,13 @@ steers-nothing m n l s room b =
     subst (λ (x : Module). SameBut (stepOf m l s room) (stepOf x l s room)) (sym (b .rest)) (step-alike m (b .flags) (b .led) (b .ramp) (b .on-level) l s room)
 
 -- bits 7 to 4 say all that is read of flags
-read-alike : (f0 f1 f2 t0 t1 t2 flags other : ℕ) (rest : List ℕ) (own : Address) → flags / 16 ≡ other / 16
+read-alike : (f0 f1 f2 t0 t1 t2 flags other : ℕ) (rest : List ℕ) (own : Address) → flags / 16 ≡ other / 16 → flags % 4 ≡ other % 4
     → readOf (f0 ∷ f1 ∷ f2 ∷ t0 ∷ t1 ∷ t2 ∷ flags ∷ rest) own ≡ readOf (f0 ∷ f1 ∷ f2 ∷ t0 ∷ t1 ∷ t2 ∷ other ∷ rest) own
 unfolding readOf kindOf
-read-alike f0 f1 f2 t0 t1 t2 flags other rest own e =
+read-alike f0 f1 f2 t0 t1 t2 flags other rest own e h =
     let type : flags / 32 ≡ other / 32 = omega arith in
-    rw (e, type)
+    rw (e, h, type)
 
 pub hops-unread : HopsUnread
-hops-unread m l room f0 f1 f2 t0 t1 t2 flags other rest e =
-    ap (λ (x : Message). finishOf m l (x .«data») room (rulingBy m l x)) (read-alike f0 f1 f2 t0 t1 t2 flags other rest (m .identity .address) e)
+hops-unread m l room f0 f1 f2 t0 t1 t2 flags other rest e h =
+    ap (λ (x : Message). finishOf m l (x .«data») room (rulingBy m l x)) (read-alike f0 f1 f2 t0 t1 t2 flags other rest (m .identity .address) e h)

@@ -17,7 +17,7 @@ use Rattle.wire.specs.declared.command.OpenCommand.{OpenCommand}
 use Rattle.wire.specs.declared.command.Command.{Command}
 use Rattle.wire.specs.declared.kind.MessageKind.{MessageKind}
 use Rattle.wire.specs.declared.kind.Message.{Message}
-use Rattle.wire.specs.Bytes.{fromOf, toOf, command1Of, requestOf, dataOf, isExtended, isWhole}
+use Rattle.wire.specs.Bytes.{fromOf, hopsOf, toOf, command1Of, requestOf, dataOf, isExtended, isWhole}
 use Rattle.wire.specs.Commands.{standards, standardOf, groupCommandOf}
 use Rattle.wire.specs.Kinds.{isDirect, isCleanup, isForeign, commandOf, kindOf}
 use Rattle.wire.specs.Checksum.{isSumWrong}
@@ -72,12 +72,12 @@ module _ (i : Identity) (s : List ℕ) where
   abbrev openBytes : Bool → List ℕ
   openBytes ping =
       choose ping (headOf (i .address) (ackTo (requestOf s)))
-      (headOf (i .address) (ackTo (requestOf s)) ++ standard (i .address) (idOf i) ReplyType.IdBroadcast 0x01 (i .revision))
+      (headOf (i .address) (ackTo (requestOf s)) ++ standard (i .address) (idOf i) ReplyType.IdBroadcast (hopsOf s) 0x01 (i .revision))
 
   abbrev kindBytes : List ℕ
   kindBytes =
-      choose (isDirect s) (choose (pingOrId s) (openBytes (eqb (command1Of s) 0x0f)) (standard (i .address) (fromOf s) ReplyType.Nak (command1Of s) 0xff))
-      (choose (isCleanup s) (standard (i .address) (fromOf s) ReplyType.CleanupNak (command1Of s) 0xff)
+      choose (isDirect s) (choose (pingOrId s) (openBytes (eqb (command1Of s) 0x0f)) (standard (i .address) (fromOf s) ReplyType.Nak (hopsOf s) (command1Of s) 0xff))
+      (choose (isCleanup s) (standard (i .address) (fromOf s) ReplyType.CleanupNak (hopsOf s) (command1Of s) 0xff)
       [])
 
   abbrev pub strangerBytes : List ℕ
@@ -116,13 +116,13 @@ module _ (m : Module) (l s : List ℕ) (stranger : Stranger l s) where
 
     to-direct : (t : Bool) → pingOrId s ≡ t
         → QuietKind (MessageKind.Direct (requestOf s) (commandIn s))
-        (choose t (openBytes (m .identity) s (eqb (command1Of s) 0x0f)) (standard (m .identity .address) (fromOf s) ReplyType.Nak (command1Of s) 0xff))
+        (choose t (openBytes (m .identity) s (eqb (command1Of s) 0x0f)) (standard (m .identity .address) (fromOf s) ReplyType.Nak (hopsOf s) (command1Of s) 0xff))
     unfolding choose
     to-direct true e = rw (exempt-plan m l (requestOf s) d (records l) (commandIn s) (exempt s ∙ e)) (opens d (records l) e)
     to-direct false e = rw (stranger-plan m l (requestOf s) d (records l) (commandIn s) stranger (exempt s ∙ e)) (record { nothing = refl; sent = refl })
 
     to-cleanup : QuietKind (MessageKind.Cleanup (requestOf s) (groupCommandOf (command1Of s)))
-        (standard (m .identity .address) (fromOf s) ReplyType.CleanupNak (command1Of s) 0xff)
+        (standard (m .identity .address) (fromOf s) ReplyType.CleanupNak (hopsOf s) (command1Of s) 0xff)
     to-cleanup = rw (stranger-cleanup m l (requestOf s) stranger (groupCommandOf (command1Of s))) (record { nothing = refl; sent = refl })
 
     to-broadcast : QuietKind (MessageKind.Broadcast (fromOf s) (toOf s) (groupCommandOf (command1Of s))) []

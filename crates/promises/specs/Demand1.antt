@@ -7,7 +7,7 @@ use lib.Dec.{eqb}
 use Rattle.basis.specs.Choice.{choose}
 use Rattle.basis.specs.Laid.{laid}
 use Rattle.basis.specs.Numbers.{within}
-use Rattle.wire.specs.Bytes.{fromOf, command1Of}
+use Rattle.wire.specs.Bytes.{fromOf, hopsOf, command1Of}
 use Rattle.wire.specs.Kinds.{isCleanup}
 use Rattle.reply.specs.declared.due.ReplyType.{ReplyType}
 use Rattle.reply.specs.Message.{standard}
@@ -17,7 +17,7 @@ use Rattle.device.specs.Step.{Step, stepOf}
 
 -- the stated NAK: to the sender, with Command 1 repeated
 abbrev pub nakOf : Module → List ℕ → ℕ → List ℕ
-nakOf m s command2 = standard (m .identity .address) (fromOf s) (choose (isCleanup s) ReplyType.CleanupNak ReplyType.Nak) (command1Of s) command2
+nakOf m s command2 = standard (m .identity .address) (fromOf s) (choose (isCleanup s) ReplyType.CleanupNak ReplyType.Nak) (hopsOf s) (command1Of s) command2
 
 -- neither module nor link memory is altered
 pub record Unaltered (m : Module) (l : List ℕ) (t : Step) : Type 0 where

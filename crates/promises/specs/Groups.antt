@@ -5,7 +5,7 @@ use mathlib.Core.Bool.{true}
 use mathlib.Core.List.{List, []}
 use mathlib.Core.Logic.{_⊎_}
 use lib.ListN.{length}
-use Rattle.wire.specs.Bytes.{fromOf, toOf, command1Of, command2Of}
+use Rattle.wire.specs.Bytes.{fromOf, toOf, hopsOf, command1Of, command2Of}
 use Rattle.wire.specs.Kinds.{isCleanup, isBroadcast}
 use Rattle.wire.specs.Reading.{wellFormed}
 use Rattle.links.specs.declared.memory.Link.{Link}
@@ -38,7 +38,7 @@ broadcastEffect l next = record { next = next; links = l; reply = [] }
 
 abbrev pub cleanupEffect : Module → List ℕ → List ℕ → Module → Effect
 cleanupEffect m l s next =
-    record { next = next; links = l; reply = standard (m .identity .address) (fromOf s) ReplyType.CleanupAck (command1Of s) (command2Of s) }
+    record { next = next; links = l; reply = standard (m .identity .address) (fromOf s) ReplyType.CleanupAck (hopsOf s) (command1Of s) (command2Of s) }
 
 -- To = 00 00 group
 abbrev pub ToGroup : List ℕ → Type 0

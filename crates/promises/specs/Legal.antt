@@ -6,7 +6,7 @@ use mathlib.Core.List.{List, [], _∷_, _++_}
 use lib.ListN.{take, drop}
 use Rattle.basis.specs.Flags.{setBit, clearBit}
 use Rattle.basis.specs.Laid.{laid}
-use Rattle.wire.specs.Bytes.{fromOf, command1Of, command2Of, dataAt, isExtended}
+use Rattle.wire.specs.Bytes.{fromOf, hopsOf, command1Of, command2Of, dataAt, isExtended}
 use Rattle.wire.specs.Kinds.{isDirect}
 use Rattle.wire.specs.Reading.{wellFormed}
 use Rattle.links.specs.Record.{isFit, records, recordAt}
@@ -47,7 +47,7 @@ module _ (s : List ℕ) where
 -- replies of the module m
 module _ (m : Module) (s : List ℕ) where
   abbrev pub ack : ℕ → ℕ → List ℕ
-  ack a b = standard (m .identity .address) (fromOf s) ReplyType.Ack a b
+  ack a b = standard (m .identity .address) (fromOf s) ReplyType.Ack (hopsOf s) a b
 
   -- both commands repeated
   abbrev pub repeated : List ℕ
@@ -57,12 +57,12 @@ module _ (m : Module) (s : List ℕ) where
   abbrev pub idBroadcast : List ℕ
   idBroadcast =
       standard (m .identity .address) (record { high = m .identity .category; middle = m .identity .subcategory; low = m .identity .firmware })
-      ReplyType.IdBroadcast 0x01 (m .identity .revision)
+      ReplyType.IdBroadcast (hopsOf s) 0x01 (m .identity .revision)
 
   -- Data 1 as sent, 01, 00, 00, house, unit, ramp, on level, LED, 00, 01, 00, 00, 00
   abbrev pub properties : ℕ → ℕ → List ℕ
   properties ramp onLevel =
-      extended (m .identity .address) (fromOf s) 0x2e
+      extended (m .identity .address) (fromOf s) (hopsOf s) 0x2e
       (dataAt s 1 ∷ 0x01 ∷ 0x00 ∷ 0x00 ∷ m .house ∷ m .unit ∷ ramp ∷ onLevel ∷ m .led ∷ 0x00 ∷ 0x01 ∷ 0x00 ∷ 0x00 ∷ 0x00 ∷ [])
 
 -- records of link memory l
@@ -74,7 +74,7 @@ module _ (m : Module) (l s : List ℕ) where
   -- the message that shows it: Data 1 as sent, 01, its address, 00, its eight bytes, 00
   abbrev pub shows : ℕ → List ℕ
   shows k =
-      extended (m .identity .address) (fromOf s) 0x2f
+      extended (m .identity .address) (fromOf s) (hopsOf s) 0x2f
       (dataAt s 1 ∷ 0x01 ∷ name k / 256 ∷ name k % 256 ∷ 0x00 ∷ (recordAt l k ++ (0x00 ∷ [])))
 
   -- n of them upward from k, each directly after the one before it

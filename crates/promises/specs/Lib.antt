@@ -5,6 +5,7 @@ pub mod Examples
 pub mod Refusals
 pub mod Sequence
 pub mod Outlets
+pub mod Hops
 pub mod Demand1
 pub mod Demand2
 pub mod Demand3

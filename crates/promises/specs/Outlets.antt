@@ -43,9 +43,9 @@ get = long linked 0x2e 0x00 (0x07 ∷ zeros 13)
 
 unfoldable pub got : ℕ → List ℕ
 got led =
-    reply linked 0x2b 0x2e 0x00 ++
+    reply linked 0x2f 0x2e 0x00 ++
     (us ++ linked ++
-    (0x11 ∷ 0x2e ∷ 0x00 ∷
+    (0x1f ∷ 0x2e ∷ 0x00 ∷
     0x07 ∷ 0x01 ∷ 0x00 ∷ 0x00 ∷ 0x20 ∷ 0x20 ∷ 0x1f ∷ 0xff ∷ led ∷ 0x00 ∷ 0x01 ∷ 0x00 ∷ 0x00 ∷ 0x00 ∷ []))
 
 unfoldable pub id : List ℕ
@@ -62,10 +62,10 @@ answered m l message number to flags one two read next =
 
 -- of the linked sender: ACKed, and not listed
 unfoldable pub takes : Module → List ℕ → ℕ → ℕ → Module → Example
-takes m message one two next = answered m memory message 0 linked 0x2b one two 1 next
+takes m message one two next = answered m memory message 0 linked 0x2f one two 1 next
 
 unfoldable pub refuses : Module → List ℕ → ℕ → Example
-refuses m message one = answered m memory message 7 linked 0xab one 0xfb 1 m
+refuses m message one = answered m memory message 7 linked 0xaf one 0xfb 1 m
 
 unfoldable pub outlets : List Example
 outlets =
@@ -113,7 +113,7 @@ outlets =
     takes outlet (long linked 0x2e 0x00 (0x00 ∷ 0x07 ∷ 0x7f ∷ (zeros 10 ++ (0x4c ∷ [])))) 0x2e 0x00 (withLed 0x7f outlet) ∷
     refuses outlet (long linked 0x2e 0x00 (0x00 ∷ 0x07 ∷ 0x10 ∷ (zeros 10 ++ (0xbb ∷ [])))) 0x2e ∷
     -- 0F, 0D, 1F 01, 30
-    answered outlet memory (direct linked 0x0f 0x00) 0 linked 0x2b 0x0f 0x00 0 outlet ∷
+    answered outlet memory (direct linked 0x0f 0x00) 0 linked 0x2f 0x0f 0x00 0 outlet ∷
     takes outlet (direct linked 0x0d 0x00) 0x0d 0x02 outlet ∷
     takes (withDelta 0x05 outlet) (direct linked 0x1f 0x01) 0x1f 0x05 (withDelta 0x05 outlet) ∷
     takes (switched true true) (direct linked 0x30 0x00) 0x30 0x00 (switched true true) ∷
@@ -121,7 +121,7 @@ outlets =
     row (switched true false) memory (long linked 0x2f 0x00 (0x07 ∷ 0x00 ∷ 0x0f ∷ 0xff ∷ zeros 10)) (room 64)
     0 database 1 (switched true false) memory (database ++ room 9) ∷
     row (switched true false) memory (long linked 0x2f 0x00 (0x01 ∷ 0x02 ∷ 0x0f ∷ 0xf7 ∷ 0x08 ∷ (other-record ++ (0x19 ∷ [])))) (room 64)
-    0 (reply linked 0x2b 0x2f 0x00) 1 (withDelta 0x01 (switched true false)) (first-record ++ other-record) (reply linked 0x2b 0x2f 0x00 ++ room 55) ∷
+    0 (reply linked 0x2f 0x2f 0x00) 1 (withDelta 0x01 (switched true false)) (first-record ++ other-record) (reply linked 0x2f 0x2f 0x00 ++ room 55) ∷
     -- not legal here
     refuses outlet (direct linked 0x12 0x80) 0x12 ∷
     refuses (switched true true) (direct linked 0x14 0x00) 0x14 ∷
@@ -142,10 +142,10 @@ outlets =
     refuses fresh (long linked 0x13 0x00 (0x02 ∷ (zeros 12 ++ (0xeb ∷ [])))) 0x13 ∷
     -- a stranger's ID request: category 02, subcategory 39, firmware C2, and the revision
     row outlet memory (direct stranger 0x10 0x00) (room 64)
-    0 (reply stranger 0x2b 0x10 0x00 ++ id) 0 outlet memory (reply stranger 0x2b 0x10 0x00 ++ id ++ room 46) ∷
+    0 (reply stranger 0x2f 0x10 0x00 ++ id) 0 outlet memory (reply stranger 0x2f 0x10 0x00 ++ id ++ room 46) ∷
     -- and nothing else for a stranger
-    answered outlet memory (direct stranger 0x11 0x80) 6 stranger 0xab 0x11 0xff 2 outlet ∷
-    answered outlet memory (direct stranger 0x12 0x80) 6 stranger 0xab 0x12 0xff 2 outlet ∷
+    answered outlet memory (direct stranger 0x11 0x80) 6 stranger 0xaf 0x11 0xff 2 outlet ∷
+    answered outlet memory (direct stranger 0x12 0x80) 6 stranger 0xaf 0x12 0xff 2 outlet ∷
     -- group broadcasts: D3 = 01, 02, and neither
     mute outlet memory (broadcast linked group-1 0x11 0x00) 0 1 (switched true false) ∷
     mute outlet to-bottom (broadcast linked group-1 0x12 0x00) 0 1 (switched false true) ∷
@@ -155,11 +155,11 @@ outlets =
     mute outlet to-neither (broadcast linked group-1 0x11 0x00) 8 1 outlet ∷
     mute (switched true true) to-neither (broadcast linked group-1 0x13 0x00) 8 1 (switched true true) ∷
     -- cleanups: the same
-    answered outlet memory (cleanup linked 0x11 0x01) 0 linked 0x6b 0x11 0x01 1 (switched true false) ∷
-    answered outlet to-bottom (cleanup linked 0x12 0x01) 0 linked 0x6b 0x12 0x01 1 (switched false true) ∷
-    answered (switched true true) memory (cleanup linked 0x13 0x01) 0 linked 0x6b 0x13 0x01 1 (switched false true) ∷
-    answered (switched true true) to-bottom (cleanup linked 0x14 0x01) 0 linked 0x6b 0x14 0x01 1 (switched true false) ∷
-    answered (switched true true) to-top-off (cleanup linked 0x11 0x01) 0 linked 0x6b 0x11 0x01 1 (switched false true) ∷
-    answered outlet to-neither (cleanup linked 0x11 0x01) 7 linked 0xeb 0x11 0xfb 1 outlet ∷
-    answered (switched true true) to-neither (cleanup linked 0x13 0x01) 7 linked 0xeb 0x13 0xfb 1 (switched true true) ∷
+    answered outlet memory (cleanup linked 0x11 0x01) 0 linked 0x6f 0x11 0x01 1 (switched true false) ∷
+    answered outlet to-bottom (cleanup linked 0x12 0x01) 0 linked 0x6f 0x12 0x01 1 (switched false true) ∷
+    answered (switched true true) memory (cleanup linked 0x13 0x01) 0 linked 0x6f 0x13 0x01 1 (switched false true) ∷
+    answered (switched true true) to-bottom (cleanup linked 0x14 0x01) 0 linked 0x6f 0x14 0x01 1 (switched true false) ∷
+    answered (switched true true) to-top-off (cleanup linked 0x11 0x01) 0 linked 0x6f 0x11 0x01 1 (switched false true) ∷
+    answered outlet to-neither (cleanup linked 0x11 0x01) 7 linked 0xef 0x11 0xfb 1 outlet ∷
+    answered (switched true true) to-neither (cleanup linked 0x13 0x01) 7 linked 0xef 0x13 0xfb 1 (switched true true) ∷
     []

@@ -70,24 +70,24 @@ refusals =
     4 [] 0 fresh memory (room 64) ∷
     -- 6 before 7: a stranger, and no per cent
     row fresh memory (direct stranger 0x39 0x65) (room 64)
-    6 (reply stranger 0xab 0x39 0xff) 2 fresh memory (reply stranger 0xab 0x39 0xff ++ room 55) ∷
+    6 (reply stranger 0xaf 0x39 0xff) 2 fresh memory (reply stranger 0xaf 0x39 0xff ++ room 55) ∷
     -- 6: an extended ping of a stranger
     row fresh memory (long stranger 0x0f 0x00 (zeros 13 ++ (0xf1 ∷ []))) (room 64)
-    6 (reply stranger 0xab 0x0f 0xff) 2 fresh memory (reply stranger 0xab 0x0f 0xff ++ room 55) ∷
+    6 (reply stranger 0xaf 0x0f 0xff) 2 fresh memory (reply stranger 0xaf 0x0f 0xff ++ room 55) ∷
     -- 7: an extended ping of a linked sender
     row fresh memory (long linked 0x0f 0x00 (zeros 13 ++ (0xf1 ∷ []))) (room 64)
-    7 (reply linked 0xab 0x0f 0xfb) 1 fresh memory (reply linked 0xab 0x0f 0xfb ++ room 55) ∷
+    7 (reply linked 0xaf 0x0f 0xfb) 1 fresh memory (reply linked 0xaf 0x0f 0xfb ++ room 55) ∷
     -- 7: Get Properties with Command 2 = 01, unchecked
     row fresh memory (long linked 0x2e 0x01 (zeros 14)) (room 64)
-    7 (reply linked 0xab 0x2e 0xfb) 1 fresh memory (reply linked 0xab 0x2e 0xfb ++ room 55) ∷
+    7 (reply linked 0xaf 0x2e 0xfb) 1 fresh memory (reply linked 0xaf 0x2e 0xfb ++ room 55) ∷
     -- 7: the write of source document 000, whose checksum is 58
     row fresh memory
     (long linked 0x2f 0x00 (0x00 ∷ 0x02 ∷ 0xff ∷ 0xf0 ∷ 0x08 ∷ 0xa2 ∷ 0x05 ∷ 0x00 ∷ 0x5e ∷ 0x5d ∷ 0xfe ∷ 0x1f ∷ 0x01 ∷ 0x58 ∷ []))
     (room 64)
-    7 (reply linked 0xab 0x2f 0xfb) 1 fresh memory (reply linked 0xab 0x2f 0xfb ++ room 55) ∷
+    7 (reply linked 0xaf 0x2f 0xfb) 1 fresh memory (reply linked 0xaf 0x2f 0xfb ++ room 55) ∷
     -- 7: a cleanup with Command 1 = 15
     row fresh memory (cleanup linked 0x15 0x01) (room 64)
-    7 (reply linked 0xeb 0x15 0xfb) 1 fresh memory (reply linked 0xeb 0x15 0xfb ++ room 55) ∷
+    7 (reply linked 0xef 0x15 0xfb) 1 fresh memory (reply linked 0xef 0x15 0xfb ++ room 55) ∷
     -- 5 for 6: no room for the NAK
     row fresh memory (direct stranger 0x11 0x80) (room 8)
     5 [] 2 fresh memory (room 8) ∷

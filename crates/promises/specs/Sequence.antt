@@ -16,8 +16,8 @@ calls =
 abbrev pub OneAfterTheOther : Type 0
 OneAfterTheOther =
     map outOf (runOf (record { device = fresh; links = memory }) calls) ≡
-    record { number = 0; sent = reply linked 0x2b 0x39 0x32; read = 1; next = withLevel 0x80 fresh; links = memory; room = reply linked 0x2b 0x39 0x32 } ∷
-    record { number = 0; sent = reply linked 0x2b 0x00 0x32; read = 1; next = withLevel 0x80 fresh; links = memory; room = reply linked 0x2b 0x00 0x32 } ∷
+    record { number = 0; sent = reply linked 0x2f 0x39 0x32; read = 1; next = withLevel 0x80 fresh; links = memory; room = reply linked 0x2f 0x39 0x32 } ∷
+    record { number = 0; sent = reply linked 0x2f 0x00 0x32; read = 1; next = withLevel 0x80 fresh; links = memory; room = reply linked 0x2f 0x00 0x32 } ∷
     []
 
 -- the same as the program has them: each frame gets its own reply, and none that of the frame before
@@ -26,8 +26,8 @@ FrameAfterFrame =
     streamOf (record { device = fresh; links = memory }) (room 9) (frameOf (direct linked 0x39 0x32) ++ frameOf (direct linked 0x19 0x06)) ≡
     record {
       written =
-          frameOf (reply linked 0x2b 0x39 0x32) ∷
-          frameOf (reply linked 0x2b 0x00 0x32) ∷
+          frameOf (reply linked 0x2f 0x39 0x32) ∷
+          frameOf (reply linked 0x2f 0x00 0x32) ∷
           [];
       state = record { device = withLevel 0x80 fresh; links = memory };
       kept = [];

@@ -1,5 +1,5 @@
 -- What is stored and reported, and steers nothing else ("The module we simulate"); what is not read ("Message bytes").
-use Prim.Native.Nat.{ℕ, _/_}
+use Prim.Native.Nat.{ℕ, _/_, _%_}
 use mathlib.Core.Path.{_≡_}
 use mathlib.Core.List.{List, _∷_}
 use Rattle.results.specs.Number.{numberOf}
@@ -36,8 +36,8 @@ pub record SameBut (t u : Step) : Type 0 where
 abbrev pub SteersNothing : Type 0
 SteersNothing = (m n : Module) (l s room : List ℕ) → Besides m n → SameBut (stepOf m l s room) (stepOf n l s room)
 
--- bits 3 to 0 of a message's flags are not read: From (3), To (3), and flags that differ there alone
+-- bits 3 and 2 of a message's flags are not read: From (3), To (3), and flags that differ there alone
 abbrev pub HopsUnread : Type 0
 HopsUnread =
-    (m : Module) (l room : List ℕ) (f0 f1 f2 t0 t1 t2 flags other : ℕ) (rest : List ℕ) → flags / 16 ≡ other / 16 →
+    (m : Module) (l room : List ℕ) (f0 f1 f2 t0 t1 t2 flags other : ℕ) (rest : List ℕ) → flags / 16 ≡ other / 16 → flags % 4 ≡ other % 4 →
     stepOf m l (f0 ∷ f1 ∷ f2 ∷ t0 ∷ t1 ∷ t2 ∷ flags ∷ rest) room ≡ stepOf m l (f0 ∷ f1 ∷ f2 ∷ t0 ∷ t1 ∷ t2 ∷ other ∷ rest) room

@@ -18,10 +18,10 @@ use Rattle.reply.specs.Sending.{sentOf, Sending}
 use Rattle.reply.proofs.Upward.{length-records}
 
 -- an ACK and records
-pub long : (own : Address) (h : Head) (data1 : ℕ) (l : List ℕ) (k count : ℕ) → length (headOf own h ++ sentRecords own (h .to) data1 l k count) ≡ 9 + 23 * countSent l k count
+pub long : (own : Address) (h : Head) (data1 : ℕ) (l : List ℕ) (k count : ℕ) → length (headOf own h ++ sentRecords own (h .to) (h .hops) data1 l k count) ≡ 9 + 23 * countSent l k count
 long own h data1 l k count =
-    length-append (headOf own h) (sentRecords own (h .to) data1 l k count)
-    ∙ omega (arith, length-records own (h .to) data1 l (countSent l k count) k)
+    length-append (headOf own h) (sentRecords own (h .to) (h .hops) data1 l k count)
+    ∙ omega (arith, length-records own (h .to) (h .hops) data1 l (countSent l k count) k)
 
 -- no more are sent than there are
 pub enough : (l : List ℕ) (k count : ℕ) → countSent l k count ≤ records l - k

@@ -11,6 +11,6 @@ use Rattle.reply.specs.Records.{sentRecords}
 abbrev pub replyOf : Address → List ℕ → Due → List ℕ
 replyOf own l Due.Nothing = []
 replyOf own l (Due.Alone h) = headOf own h
-replyOf own l (Due.WithId h id revision) = headOf own h ++ standard own id ReplyType.IdBroadcast 0x01 revision
-replyOf own l (Due.WithProperties h d) = headOf own h ++ extended own (h .to) 0x2e (dataBytes d)
-replyOf own l (Due.WithRecords h data1 k count) = headOf own h ++ sentRecords own (h .to) data1 l k count
+replyOf own l (Due.WithId h id revision) = headOf own h ++ standard own id ReplyType.IdBroadcast (h .hops) 0x01 revision
+replyOf own l (Due.WithProperties h d) = headOf own h ++ extended own (h .to) (h .hops) 0x2e (dataBytes d)
+replyOf own l (Due.WithRecords h data1 k count) = headOf own h ++ sentRecords own (h .to) (h .hops) data1 l k count

@@ -15,6 +15,8 @@ pub enum ReplyType {
 pub struct Head {
     pub reply_type: ReplyType,
     pub to: Address,
+    // The largest hop count of the request.
+    pub hops: u8,
     pub command1: u8,
     pub command2: u8,
 }

@@ -54,9 +54,17 @@ fn up_to_mark(links: &[u8], k: usize, n: usize) -> usize
 }
 
 // One record in the remaining part of the room.
-fn put_record(room: &mut [u8], own: Address, to: Address, data1: u8, links: &[u8], k: usize)
+fn put_record(
+    room: &mut [u8],
+    own: Address,
+    to: Address,
+    hops: u8,
+    data1: u8,
+    links: &[u8],
+    k: usize,
+)
     requires { ⌜ k < records (now links) ⌝ }
-    ensures { λ _. ⌜ now (room .exit) ≡ laidIfFits (now (room .entry)) (recordMessage own to data1 (now (links .entry)) k) ⌝ }
+    ensures { λ _. ⌜ now (room .exit) ≡ laidIfFits (now (room .entry)) (recordMessage own to hops data1 (now (links .entry)) k) ⌝ }
 {
     let name = name_of(k);
     let high = (name / 256) as u8;
@@ -78,7 +86,7 @@ fn put_record(room: &mut [u8], own: Address, to: Address, data1: u8, links: &[u8
         d13: r[7],
         d14: 0x00,
     };
-    put_extended(room, own, to, 0x2f, d);
+    put_extended(room, own, to, hops, 0x2f, d);
 }
 
 // `n` records upward from record `k`, each directly after the one before it.
@@ -86,6 +94,7 @@ pub(crate) fn put_records(
     room: &mut [u8],
     own: Address,
     to: Address,
+    hops: u8,
     data1: u8,
     links: &[u8],
     k: usize,
@@ -93,12 +102,12 @@ pub(crate) fn put_records(
 )
     requires { ⌜ n ≤ records (now links) - k ⌝ }
     requires { ⌜ 23 * n ≤ length (now room) ⌝ }
-    ensures { λ _. ⌜ now (room .exit) ≡ laidIfFits (now (room .entry)) (recordsFrom own to data1 (now (links .entry)) n k) ⌝ }
+    ensures { λ _. ⌜ now (room .exit) ≡ laidIfFits (now (room .entry)) (recordsFrom own to hops data1 (now (links .entry)) n k) ⌝ }
 {
     let mut i: usize = 0;
     while i < n {
         let at = 23 * i;
-        put_record(&mut room[at..], own, to, data1, links, k + i);
+        put_record(&mut room[at..], own, to, hops, data1, links, k + i);
         i += 1;
     }
 }

@@ -48,17 +48,19 @@ fn send_head(room: &mut [u8], own: Address, head: Head) -> Sent
 }
 
 fn send_id(room: &mut [u8], own: Address, head: Head, id: Address, revision: u8) -> Sent
-    ensures { λ r. ⌜ Sending (headOf own head ++ standard own id ReplyType.IdBroadcast 0x01 revision) (now (room .entry)) r (now (room .exit)) ⌝ }
+    ensures { λ r. ⌜ Sending (headOf own head ++ standard own id ReplyType.IdBroadcast (head .hops) 0x01 revision) (now (room .entry)) r (now (room .exit)) ⌝ }
 {
     if room.len() < 18 {
         return Sent::Short;
     }
+    let hops = head.hops;
     put_head(room, own, head);
     put_standard(
         &mut room[9..],
         own,
         id,
         ReplyType::IdBroadcast,
+        hops,
         0x01,
         revision,
     );
@@ -66,14 +68,15 @@ fn send_id(room: &mut [u8], own: Address, head: Head, id: Address, revision: u8)
 }
 
 fn send_properties(room: &mut [u8], own: Address, head: Head, d: DataBytes) -> Sent
-    ensures { λ r. ⌜ Sending (headOf own head ++ extended own (head .to) 0x2e (dataBytes d)) (now (room .entry)) r (now (room .exit)) ⌝ }
+    ensures { λ r. ⌜ Sending (headOf own head ++ extended own (head .to) (head .hops) 0x2e (dataBytes d)) (now (room .entry)) r (now (room .exit)) ⌝ }
 {
     if room.len() < 32 {
         return Sent::Short;
     }
     let to = head.to;
+    let hops = head.hops;
     put_head(room, own, head);
-    put_extended(&mut room[9..], own, to, 0x2e, d);
+    put_extended(&mut room[9..], own, to, hops, 0x2e, d);
     Sent::Whole(32)
 }
 
@@ -87,7 +90,7 @@ fn send_records(
     count: usize,
 ) -> Sent
     ensures { λ r. ⌜
-        Sending (headOf own head ++ sentRecords own (head .to) data1 (now (links .entry)) k count)
+        Sending (headOf own head ++ sentRecords own (head .to) (head .hops) data1 (now (links .entry)) k count)
         (now (room .entry)) r (now (room .exit))
         ⌝ }
 {
@@ -101,7 +104,8 @@ fn send_records(
         return Sent::Short;
     }
     let to = head.to;
+    let hops = head.hops;
     put_head(room, own, head);
-    put_records(&mut room[9..], own, to, data1, links, k, n);
+    put_records(&mut room[9..], own, to, hops, data1, links, k, n);
     Sent::Whole(length)
 }

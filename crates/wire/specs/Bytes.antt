@@ -1,5 +1,5 @@
 -- The bytes of a message ("Message bytes").
-use Prim.Native.Nat.{ℕ, _+_, _-_}
+use Prim.Native.Nat.{ℕ, _+_, _-_, _%_}
 use mathlib.Core.Bool.{Bool, _&&_}
 use mathlib.Core.List.{List}
 use lib.Dec.{eqb}
@@ -32,8 +32,12 @@ command1Of s = getD s 7 0
 abbrev pub command2Of : List ℕ → ℕ
 command2Of s = getD s 8 0
 
+-- the largest hop count: flags bits 1 and 0
+abbrev pub hopsOf : List ℕ → ℕ
+hopsOf s = flagsOf s % 4
+
 abbrev pub requestOf : List ℕ → Request
-requestOf s = record { from = fromOf s; command1 = command1Of s; command2 = command2Of s }
+requestOf s = record { from = fromOf s; hops = hopsOf s; command1 = command1Of s; command2 = command2Of s }
 
 -- then Data 1 to Data 14, of an extended message; 00 where a message has none
 abbrev pub dataAt : List ℕ → ℕ → ℕ

@@ -153,6 +153,7 @@ fn request_of(message: &[u8]) -> Request
     let from = address_at(message, 0);
     Request {
         from: from,
+        hops: message[6] % 4,
         command1: message[7],
         command2: message[8],
     }

@@ -3,6 +3,7 @@
 use super::module::Address;
 
 const EXTENDED: u8 = 0x10;
+const LARGEST_HOPS: u8 = 0x03;
 
 /// Bits 7 to 5 of the flags, for the three types that are the module's business.
 #[derive(Clone, Copy, Debug, PartialEq, Eq)]
@@ -57,6 +58,11 @@ impl<'a> Message<'a> {
             data,
         };
         (is_extended(flags) == data.is_some()).then_some(message)
+    }
+
+    /// Bits 1 and 0 of the flags; how many are left, bits 3 and 2, is not read.
+    pub fn largest_hops(&self) -> u8 {
+        self.flags & LARGEST_HOPS
     }
 
     /// Nothing for the other types.

@@ -1,17 +1,19 @@
 //! Replies: "Message bytes" for their flags and order, "Direct commands, extended" for their data.
 
 use super::links::{self, Record};
+use super::message::Message;
 use super::module::{Address, Module};
 
 const STANDARD: usize = 9;
 const EXTENDED: usize = 23;
 
-const ACK: u8 = 0x2B;
-const NAK: u8 = 0xAB;
-const CLEANUP_ACK: u8 = 0x6B;
-const CLEANUP_NAK: u8 = 0xEB;
-const EXTENDED_DATA: u8 = 0x11;
-const ID_BROADCAST: u8 = 0x8F;
+/// Type bits and extended bit of each reply; its hops are the request's.
+const ACK: u8 = 0x20;
+const NAK: u8 = 0xA0;
+const CLEANUP_ACK: u8 = 0x60;
+const CLEANUP_NAK: u8 = 0xE0;
+const EXTENDED_DATA: u8 = 0x10;
+const ID_BROADCAST: u8 = 0x80;
 
 /// The reply that is due; it is measured before a byte of it is laid.
 #[derive(Clone, Copy, Debug)]
@@ -58,45 +60,53 @@ impl Reply {
         }
     }
 
-    /// Lays the reply at the start of a room that is long enough for it.
-    pub fn lay(self, module: &Module, records: &[Record], sender: Address, room: &mut [u8]) {
-        let own = module.identity.address;
+    /// Lays the reply to `request` at the start of a room that is long enough for it.
+    pub fn lay(self, module: &Module, records: &[Record], request: &Message, room: &mut [u8]) {
+        let route = Route {
+            from: module.identity.address,
+            to: request.from,
+            hops: request.largest_hops(),
+        };
         match self {
             Self::None => {}
             Self::One(end) => {
-                put_standard(room, own, sender, end);
+                put_standard(room, route, end);
             }
             Self::Identity { command2 } => {
-                let rest = put_standard(room, own, sender, [ACK, 0x10, command2]);
-                put_id_broadcast(rest, module);
+                let rest = put_standard(room, route, [ACK, 0x10, command2]);
+                put_id_broadcast(rest, route, module);
             }
             Self::Properties { data1 } => {
-                let rest = put_standard(room, own, sender, [ACK, 0x2E, 0x00]);
-                put_extended(rest, own, sender, 0x2E, properties(module, data1));
+                let rest = put_standard(room, route, [ACK, 0x2E, 0x00]);
+                put_extended(rest, route, 0x2E, properties(module, data1));
             }
             Self::Records {
                 data1,
                 first,
                 count,
             } => {
-                let mut rest = put_standard(room, own, sender, [ACK, 0x2F, 0x00]);
+                let mut rest = put_standard(room, route, [ACK, 0x2F, 0x00]);
                 for (k, record) in records.iter().enumerate().skip(first).take(count) {
-                    rest = put_extended(rest, own, sender, 0x2F, record_data(data1, k, record));
+                    rest = put_extended(rest, route, 0x2F, record_data(data1, k, record));
                 }
             }
         }
     }
 }
 
-fn put_id_broadcast(room: &mut [u8], module: &Module) {
+/// Who a message is from, who it goes to, and how far at most.
+#[derive(Clone, Copy)]
+struct Route {
+    from: Address,
+    to: Address,
+    hops: u8,
+}
+
+fn put_id_broadcast(room: &mut [u8], route: Route, module: &Module) {
     let identity = &module.identity;
     let to = [identity.category, identity.subcategory, identity.firmware];
-    put_standard(
-        room,
-        identity.address,
-        to,
-        [ID_BROADCAST, 0x01, identity.hardware],
-    );
+    let end = [ID_BROADCAST, 0x01, identity.hardware];
+    put_standard(room, Route { to, ..route }, end);
 }
 
 fn properties(module: &Module, data1: u8) -> [u8; 14] {
@@ -117,24 +127,21 @@ fn record_data(data1: u8, k: usize, record: &Record) -> [u8; 14] {
     ]
 }
 
-/// Lays one standard message with flags and commands `end`; what it returns is the room behind it.
-fn put_standard(room: &mut [u8], from: Address, to: Address, end: [u8; 3]) -> &mut [u8] {
+/// Lays one standard message of type `end[0]` with commands behind it; what it returns is the room behind it. Request 4: the
+/// hops are fresh, so as many are left as there are at most.
+fn put_standard(room: &mut [u8], route: Route, end: [u8; 3]) -> &mut [u8] {
+    let [kind, command1, command2] = end;
     let (place, rest) = room.split_at_mut(STANDARD);
-    place[0..3].copy_from_slice(&from);
-    place[3..6].copy_from_slice(&to);
-    place[6..9].copy_from_slice(&end);
+    place[0..3].copy_from_slice(&route.from);
+    place[3..6].copy_from_slice(&route.to);
+    let flags = kind | route.hops << 2 | route.hops;
+    place[6..9].copy_from_slice(&[flags, command1, command2]);
     rest
 }
 
 /// Lays one message of extended data; what it returns is the room behind it.
-fn put_extended(
-    room: &mut [u8],
-    from: Address,
-    to: Address,
-    command1: u8,
-    data: [u8; 14],
-) -> &mut [u8] {
-    let rest = put_standard(room, from, to, [EXTENDED_DATA, command1, 0x00]);
+fn put_extended(room: &mut [u8], route: Route, command1: u8, data: [u8; 14]) -> &mut [u8] {
+    let rest = put_standard(room, route, [EXTENDED_DATA, command1, 0x00]);
     let (place, rest) = rest.split_at_mut(data.len());
     place.copy_from_slice(&data);
     rest

@@ -70,7 +70,7 @@ pub fn step(module: &mut Module, links: &mut [u8], message: &[u8], room: &mut [u
             read,
         };
     }
-    verdict.reply.lay(module, records, message.from, room);
+    verdict.reply.lay(module, records, &message, room);
     verdict.change.apply(module, links);
     Outcome {
         result: verdict.result,

@@ -20,7 +20,7 @@ const PING: [u8; 11] = [
     0x02, 0x50, 0xAA, 0xBB, 0xCC, 0x00, 0x10, 0x3A, 0x0F, 0x0F, 0x00,
 ];
 const PING_ANSWER: [u8; 11] = [
-    0x02, 0x50, 0x00, 0x10, 0x3A, 0xAA, 0xBB, 0xCC, 0x2B, 0x0F, 0x00,
+    0x02, 0x50, 0x00, 0x10, 0x3A, 0xAA, 0xBB, 0xCC, 0x2F, 0x0F, 0x00,
 ];
 
 /// Long enough for the program to read what came before.
@@ -31,7 +31,7 @@ fn standard(flags: u8, command1: u8, command2: u8) -> Vec<u8> {
 }
 
 fn answer(command1: u8, command2: u8) -> Vec<u8> {
-    frame(&[&OWN[..], &LINKED, &[0x2B, command1, command2]].concat())
+    frame(&[&OWN[..], &LINKED, &[0x2F, command1, command2]].concat())
 }
 
 fn extended(command1: u8, data: [u8; 14]) -> Vec<u8> {

@@ -30,7 +30,7 @@ fn database(links: &[u8]) -> Vec<u8> {
         frames.extend([0x02, 0x51]);
         frames.extend(OWN);
         frames.extend(LINKED);
-        frames.extend([0x11, 0x2F, 0x00, 0x00, 0x01]);
+        frames.extend([0x1F, 0x2F, 0x00, 0x00, 0x01]);
         frames.extend(name(k));
         frames.push(0x00);
         frames.extend(record);

@@ -12,14 +12,14 @@ use Rattle.reply.proofs.send.send_id.Tie as tie
 returns : tie.Need-returns
 returns c =
     let g = c .before .before .args in
-    short (headOf (g .own) (g .head) ++ standard (g .own) (g .id) ReplyType.IdBroadcast 0x01 (g .revision)) (g .room .now) (c .if1 .taken)
+    short (headOf (g .own) (g .head) ++ standard (g .own) (g .id) ReplyType.IdBroadcast (g .head .hops) 0x01 (g .revision)) (g .room .now) (c .if1 .taken)
 
 returns-2 : tie.Need-returns-2
 returns-2 c =
     let g = c .before .before .before .before .before .before .before .before .before .before .args in
     let room = g .room .now in
     let h = headOf (g .own) (g .head) in
-    let more = standard (g .own) (g .id) ReplyType.IdBroadcast 0x01 (g .revision) in
+    let more = standard (g .own) (g .id) ReplyType.IdBroadcast (g .head .hops) 0x01 (g .revision) in
     let first = c .before .before .before .before .before .before .put-head .ensures in
     whole (h ++ more) room 18 _ (omega arith) refl (behind room _ _ h more (omega arith) first (c .before .before .put-standard .ensures))
 

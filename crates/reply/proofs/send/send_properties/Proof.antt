@@ -11,14 +11,14 @@ use Rattle.reply.proofs.send.send_properties.Tie as tie
 returns : tie.Need-returns
 returns c =
     let g = c .before .before .args in
-    short (headOf (g .own) (g .head) ++ extended (g .own) (g .head .to) 0x2e (dataBytes (g .d))) (g .room .now) (c .if1 .taken)
+    short (headOf (g .own) (g .head) ++ extended (g .own) (g .head .to) (g .head .hops) 0x2e (dataBytes (g .d))) (g .room .now) (c .if1 .taken)
 
 returns-2 : tie.Need-returns-2
 returns-2 c =
     let g = c .before .before .before .before .before .before .before .before .before .before .before .args in
     let room = g .room .now in
     let h = headOf (g .own) (g .head) in
-    let more = extended (g .own) (g .head .to) 0x2e (dataBytes (g .d)) in
+    let more = extended (g .own) (g .head .to) (g .head .hops) 0x2e (dataBytes (g .d)) in
     let first = c .before .before .before .before .before .before .put-head .ensures in
     whole (h ++ more) room 32 _ (omega arith) refl (behind room _ _ h more (omega arith) first (c .before .before .put-extended .ensures))
 

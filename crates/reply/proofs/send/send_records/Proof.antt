@@ -17,14 +17,14 @@ returns : tie.Need-returns
 returns c =
     let g = c .before .before .before .before .args in
     let l = g .links .now in
-    let reply = headOf (g .own) (g .head) ++ sentRecords (g .own) (g .head .to) (g .data1) l (g .k) (g .count) in
+    let reply = headOf (g .own) (g .head) ++ sentRecords (g .own) (g .head .to) (g .head .hops) (g .data1) l (g .k) (g .count) in
     short reply (g .room .now) (omega (arith, c .before .count-sent .ensures, long (g .own) (g .head) (g .data1) l (g .k) (g .count)))
 
 returns-2 : tie.Need-returns-2
 returns-2 c =
     let g = c .before .before .before .before .before .args in
     let l = g .links .now in
-    let reply = headOf (g .own) (g .head) ++ sentRecords (g .own) (g .head .to) (g .data1) l (g .k) (g .count) in
+    let reply = headOf (g .own) (g .head) ++ sentRecords (g .own) (g .head .to) (g .head .hops) (g .data1) l (g .k) (g .count) in
     short reply (g .room .now) (omega (arith, c .before .before .count-sent .ensures, long (g .own) (g .head) (g .data1) l (g .k) (g .count)))
 
 put-records-requires : tie.Need-put-records-requires
@@ -42,13 +42,13 @@ returns-3 c =
     let h = headOf (g .own) (g .head) in
     let n = counted .count-sent .result in
     let is : n ≡ countSent l (g .k) (g .count) = counted .count-sent .ensures in
-    let more : List ℕ = recordsFrom (g .own) (g .head .to) (g .data1) l n (g .k) in
+    let more : List ℕ = recordsFrom (g .own) (g .head .to) (g .head .hops) (g .data1) l n (g .k) in
     let all = long (g .own) (g .head) (g .data1) l (g .k) (g .count) in
-    let some = length-records (g .own) (g .head .to) (g .data1) l n (g .k) in
+    let some = length-records (g .own) (g .head .to) (g .head .hops) (g .data1) l n (g .k) in
     let first = c .before .before .before .before .before .before .put-head .ensures in
     let laid-there = behind room _ _ h more (omega (arith, some)) first (c .before .before .put-records .ensures) in
-    let whole-reply = laid-there ∙ ap (λ (x : ℕ). laid (h ++ recordsFrom (g .own) (g .head .to) (g .data1) l x (g .k)) room) is in
-    whole (h ++ sentRecords (g .own) (g .head .to) (g .data1) l (g .k) (g .count)) room _ _ (omega (arith, is, all)) (omega (arith, is, all)) whole-reply
+    let whole-reply = laid-there ∙ ap (λ (x : ℕ). laid (h ++ recordsFrom (g .own) (g .head .to) (g .head .hops) (g .data1) l x (g .k)) room) is in
+    whole (h ++ sentRecords (g .own) (g .head .to) (g .head .hops) (g .data1) l (g .k) (g .count)) room _ _ (omega (arith, is, all)) (omega (arith, is, all)) whole-reply
 
 pub send-records-spec : {M : Type 1} → statement M
 send-records-spec =

@@ -9,4 +9,5 @@ request-of-spec =
     (λ c κs. search needs)
     (λ c. search needs)
     (λ c. search needs)
-    (λ c. rw (c .before .before .address-at .ensures)))
+    (λ c. search needs)
+    (λ c. rw (c .before .before .before .address-at .ensures)))

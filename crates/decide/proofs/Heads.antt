@@ -1,67 +1,109 @@
--- Every reply begins with a standard message, an ACK or a NAK.
+-- Every reply begins with a standard message, an ACK or a NAK, with the hops of its request.
 use Prim.Native.Nat.{ℕ}
 use mathlib.Core.Path.{refl}
 use mathlib.Core.Bool.{_||_}
 use mathlib.Core.List.{List}
 use Rattle.basis.proofs.Choice.{either}
+use Rattle.wire.specs.declared.address.Address.{Address}
 use Rattle.wire.specs.declared.request.Request.{Request}
+use Rattle.wire.specs.declared.command.Command.{Command}
+use Rattle.wire.specs.declared.command.GroupCommand.{GroupCommand}
 use Rattle.wire.specs.declared.kind.MessageKind.{MessageKind}
-use Rattle.wire.specs.declared.kind.Reading.{Reading}
-use Rattle.links.specs.declared.search.Found.{Found}
+use Rattle.wire.specs.declared.kind.Message.{Message}
+use Rattle.wire.specs.Bytes.{fromOf, toOf, hopsOf, command1Of, requestOf, dataOf, isExtended, isWhole}
+use Rattle.wire.specs.Commands.{groupCommandOf}
+use Rattle.wire.specs.Checksum.{isSumWrong}
+use Rattle.wire.specs.Kinds.{isDirect, isCleanup, isForeign, commandOf, kindOf}
+use Rattle.wire.specs.Reading.{readOf}
 use Rattle.links.specs.Record.{isFit, records}
 use Rattle.links.specs.Search.{isFound, searchOf}
 use Rattle.links.proofs.Following.{by-found}
-use Rattle.reply.proofs.Messages.{Begins}
+use Rattle.reply.specs.declared.due.ReplyType.{ReplyType}
+use Rattle.reply.proofs.Messages.{Opens, Begins}
 use Rattle.module.specs.declared.state.Module.{Module}
 use Rattle.module.specs.declared.deed.Ack.{Ack}
 use Rattle.module.specs.declared.deed.Deed.{Deed}
 use Rattle.module.specs.declared.deed.GroupDeed.{GroupDeed}
 use Rattle.module.specs.declared.plan.Plan.{Plan}
-use Rattle.module.specs.Plan.{dueOf, deedPlan}
+use Rattle.module.specs.Plan.{headed, dueOf, deedPlan}
 use Rattle.decide.specs.declared.rule.Ruling.{Ruling}
 use Rattle.decide.specs.Dispatch.{deedOf, groupDeedOf}
 use Rattle.decide.specs.Groups.{broadcastBy, cleanupBy}
-use Rattle.decide.specs.Decide.{needsNoLink, directPlan, planOf, wantedOf}
-use Rattle.decide.specs.Ruling.{heardBy, readRuling, rulingBy, rulingOf}
+use Rattle.decide.specs.Decide.{needsNoLink, directPlan, wantedOf}
+use Rattle.decide.specs.Ruling.{readRuling, kindRuling, rulingBy, rulingOf}
 
-abbrev Begun : Plan → Type 0
-Begun p = Begins (p .due)
+abbrev Begun : ℕ → Plan → Type 0
+Begun hops p = Begins hops (p .due)
+
+module _ (r : Request) (one two : ℕ) where
+  ack : Opens (r .hops) (headed ReplyType.Ack r one two)
+  ack = record { short = refl; fresh = refl }
+
+  nak : Opens (r .hops) (headed ReplyType.Nak r one two)
+  nak = record { short = refl; fresh = refl }
+
+  cleanup-ack : Opens (r .hops) (headed ReplyType.CleanupAck r one two)
+  cleanup-ack = record { short = refl; fresh = refl }
+
+  cleanup-nak : Opens (r .hops) (headed ReplyType.CleanupNak r one two)
+  cleanup-nak = record { short = refl; fresh = refl }
 
 module _ (m : Module) (r : Request) where
-  ack-begins : (ack : Ack) → Begins (dueOf m r ack)
-  ack-begins Ack.Repeated = refl
-  ack-begins (Ack.Telling command2) = refl
-  ack-begins (Ack.AfterDelta command2) = refl
-  ack-begins Ack.WithId = refl
-  ack-begins (Ack.WithProperties d) = refl
-  ack-begins (Ack.WithRecords data1 k count) = refl
+  ack-begins : (a : Ack) → Begins (r .hops) (dueOf m r a)
+  ack-begins Ack.Repeated = ack r _ _
+  ack-begins (Ack.Telling command2) = ack r _ _
+  ack-begins (Ack.AfterDelta command2) = ack r _ _
+  ack-begins Ack.WithId = ack r _ _
+  ack-begins (Ack.WithProperties d) = ack r _ _
+  ack-begins (Ack.WithRecords data1 k count) = ack r _ _
 
-  deed-begins : (deed : Deed) → Begun (deedPlan m r deed)
-  deed-begins (Deed.Done change ack) = ack-begins ack
-  deed-begins Deed.Unlisted = refl
+  deed-begins : (deed : Deed) → Begun (r .hops) (deedPlan m r deed)
+  deed-begins (Deed.Done change a) = ack-begins a
+  deed-begins Deed.Unlisted = nak r _ _
 
-cleanup-begins : (r : Request) (deed : GroupDeed) → Begun (cleanupBy r deed)
-cleanup-begins r (GroupDeed.Done change) = refl
-cleanup-begins r GroupDeed.Unlisted = refl
+cleanup-begins : (r : Request) (deed : GroupDeed) → Begun (r .hops) (cleanupBy r deed)
+cleanup-begins r (GroupDeed.Done change) = cleanup-ack r _ _
+cleanup-begins r GroupDeed.Unlisted = cleanup-nak r _ _
 
 -- a broadcast is not answered
-broadcast-begins : (deed : GroupDeed) → Begun (broadcastBy deed)
-broadcast-begins (GroupDeed.Done change) = tt
-broadcast-begins GroupDeed.Unlisted = tt
+broadcast-begins : (hops : ℕ) (deed : GroupDeed) → Begun hops (broadcastBy deed)
+broadcast-begins hops (GroupDeed.Done change) = tt
+broadcast-begins hops GroupDeed.Unlisted = tt
 
-module _ (m : Module) (l : List ℕ) where
-  plan-begins : (kind : MessageKind) (d : List ℕ) (n : ℕ) (found : Found) → Begun (planOf m kind d n found)
+module _ (m : Module) (l d : List ℕ) where
+  abbrev Answered : ℕ → MessageKind → Type 0
+  Answered hops kind = Begun hops (kindRuling m l d kind .plan)
+
+  direct : (r : Request) (command : Command) → Answered (r .hops) (MessageKind.Direct r command)
   unfolding directPlan
-  plan-begins (MessageKind.Direct r command) d n found = either Begun (needsNoLink command || isFound found) (deed-begins m r (deedOf m r d n command)) refl
-  plan-begins (MessageKind.Cleanup r command) d n found = by-found Begun found _ _ (λ link. cleanup-begins r (groupDeedOf m command link)) refl
-  plan-begins (MessageKind.Broadcast from to command) d n found = by-found Begun found _ _ (λ link. broadcast-begins (groupDeedOf m command link)) tt
-  plan-begins MessageKind.Foreign d n found = tt
+  direct r command =
+      either (Begun (r .hops)) (needsNoLink command || isFound (searchOf l (wantedOf (MessageKind.Direct r command)) .found))
+      (deed-begins m r (deedOf m r d (records l) command)) (nak r _ _)
 
-  read-begins : (d : List ℕ) (reading : Reading) → Begun (readRuling m l d reading .plan)
-  read-begins d (Reading.Heard kind) = plan-begins kind d (records l) (searchOf l (wantedOf kind) .found)
-  read-begins d Reading.BadLength = tt
-  read-begins d Reading.BadSum = tt
+  cleanup : (r : Request) (command : GroupCommand) → Answered (r .hops) (MessageKind.Cleanup r command)
+  cleanup r command =
+      by-found (Begun (r .hops)) (searchOf l (wantedOf (MessageKind.Cleanup r command)) .found) _ _ (λ link. cleanup-begins r (groupDeedOf m command link)) (cleanup-nak r _ _)
 
-  pub ruling-begins : (s : List ℕ) → Begins (rulingOf m l s .plan .due)
+  broadcast : (hops : ℕ) (from to : Address) (command : GroupCommand) → Answered hops (MessageKind.Broadcast from to command)
+  broadcast hops from to command =
+      by-found (Begun hops) (searchOf l (wantedOf (MessageKind.Broadcast from to command)) .found) _ _ (λ link. broadcast-begins hops (groupDeedOf m command link)) tt
+
+module _ (m : Module) (l s : List ℕ) where
+  kind-begins : Answered m l (dataOf s) (hopsOf s) (kindOf s)
+  unfolding kindOf
+  kind-begins =
+      let Kind : MessageKind → Type 0 = Answered m l (dataOf s) (hopsOf s) in
+      let command : GroupCommand = groupCommandOf (command1Of s) in
+      either Kind (isDirect s) (direct m l (dataOf s) (requestOf s) (commandOf (isExtended s) (command1Of s)))
+      (either Kind (isCleanup s) (cleanup m l (dataOf s) (requestOf s) command) (broadcast m l (dataOf s) (hopsOf s) (fromOf s) (toOf s) command))
+
+  abbrev Read : Message → Type 0
+  Read message = Begun (hopsOf s) (readRuling m l (message .«data») (message .reading) .plan)
+
+  read-begins : Read (readOf s (m .identity .address))
+  unfolding readOf
+  read-begins = either Read (isWhole s) (either Read (isForeign s (m .identity .address)) tt (either Read (isSumWrong s) tt kind-begins)) tt
+
+  pub ruling-begins : Begins (hopsOf s) (rulingOf m l s .plan .due)
   unfolding rulingBy
-  ruling-begins s = either (λ (r : Ruling). Begun (r .plan)) (isFit l) (read-begins (heardBy m s .«data») (heardBy m s .reading)) tt
+  ruling-begins = either (λ (r : Ruling). Begun (hopsOf s) (r .plan)) (isFit l) read-begins tt

@@ -14,11 +14,12 @@ use Rattle.basis.specs.First.{firstFrom}
 use Rattle.basis.proofs.Tests.{both}
 use Rattle.basis.proofs.Choice.{either}
 use Rattle.wire.specs.declared.address.Address.{Address}
+use Rattle.wire.specs.Bytes.{hopsOf}
 use Rattle.wire.specs.Commands.{standards}
 use Rattle.wire.specs.Kinds.{kindOf}
 use Rattle.wire.specs.Reading.{readOf}
 use Rattle.reply.specs.declared.due.Due.{Due}
-use Rattle.reply.proofs.Messages.{messagesOf, joined, each-whole}
+use Rattle.reply.proofs.Messages.{messagesOf, joined, Each, none, each-sound}
 use Rattle.decide.specs.Decide.{directPlan}
 use Rattle.decide.specs.Ruling.{rulingBy, rulingOf}
 use Rattle.device.specs.Step.{Step}
@@ -51,14 +52,24 @@ ping-always l room f h = rw (f, le-ltb (length room) 9 h) refl
 pub frames-are-messages : FramesAreMessages
 frames-are-messages = each-framed
 
+as-messages : (s : List ℕ) (ms : List (List ℕ)) → Each (hopsOf s) ms → Messages s (flatten ms)
+as-messages s ms f =
+    record {
+      messages = ms;
+      joined = refl;
+      whole = λ i h. f i h .whole;
+      left = λ i h. omega (arith, f i h .left);
+      largest = λ i h. omega (arith, f i h .largest);
+    }
+
 pub replies-are-messages : RepliesAreMessages
 unfolding flatten
 replies-are-messages m l s room =
     let own : Address = m .identity .address in
     let due : Due = rulingOf m l s .plan .due in
-    either (λ (t : Step). Messages (t .reply)) _
-    (record { messages = []; whole = λ i h. absurd (omega arith); joined = refl })
-    (record { messages = messagesOf own l due; whole = each-whole own l due (ruling-begins m l s); joined = joined own l due })
+    either (λ (t : Step). Messages s (t .reply)) _
+    (as-messages s [] (none (hopsOf s)))
+    (rw (joined own l due) (as-messages s (messagesOf own l due) (each-sound own l (hopsOf s) due (ruling-begins m l s))))
 
 pub skipped-alone : SkippedAlone
 skipped-alone = alone

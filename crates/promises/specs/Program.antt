@@ -1,10 +1,10 @@
 -- The program: frames on standard input, and replies in the same frames ("The program").
-use Prim.Native.Nat.{ℕ, _≤_, _<_}
+use Prim.Native.Nat.{ℕ, _/_, _%_, _≤_, _<_}
 use mathlib.Core.Path.{_≡_}
 use mathlib.Core.Bool.{true, false}
 use mathlib.Core.List.{List, [], _∷_, _++_, map, flatten}
 use lib.ListN.{length, getD}
-use Rattle.wire.specs.Bytes.{isWhole}
+use Rattle.wire.specs.Bytes.{flagsOf, isWhole}
 use Rattle.links.specs.Record.{isFit}
 use Rattle.module.specs.declared.state.Module.{Module}
 use Rattle.device.specs.Step.{stepOf}
@@ -36,15 +36,18 @@ FramesAreMessages =
     (ms : List (List ℕ)) → ((i : ℕ) → i < length ms → isWhole (getD ms i []) ≡ true) →
     framed (flatten ms) ≡ flatten (map frameOf ms)
 
--- whole messages, each directly after the one before it
-pub record Messages (reply : List ℕ) : Type 0 where
+-- whole messages, each directly after the one before it, with fresh hops: as hops left, bits 3 and 2 of its flags, and as the largest
+-- count, bits 1 and 0, each has the largest count of the message s
+pub record Messages (s reply : List ℕ) : Type 0 where
   pub messages : List (List ℕ)
-  pub whole : (i : ℕ) → i < length messages → isWhole (getD messages i []) ≡ true
   pub joined : reply ≡ flatten messages
+  pub whole : (i : ℕ) → i < length messages → isWhole (getD messages i []) ≡ true
+  pub left : (i : ℕ) → i < length messages → flagsOf (getD messages i []) / 4 % 4 ≡ flagsOf s % 4
+  pub largest : (i : ℕ) → i < length messages → flagsOf (getD messages i []) % 4 ≡ flagsOf s % 4
 
 -- every reply is so
 abbrev pub RepliesAreMessages : Type 0
-RepliesAreMessages = (m : Module) (l s room : List ℕ) → Messages (stepOf m l s room .reply)
+RepliesAreMessages = (m : Module) (l s room : List ℕ) → Messages s (stepOf m l s room .reply)
 
 -- a byte that doesn't start a frame is skipped alone
 abbrev pub SkippedAlone : Type 0

@@ -1,6 +1,6 @@
--- A reply is whole messages, each directly after the one before it.
-use Prim.Native.Nat.{ℕ, zero, suc, _+_, _*_, _/_, _%_, _≤_, _<_}
-use mathlib.Core.Path.{_≡_, refl, _∙_, ap}
+-- A reply is whole messages with fresh hops, each directly after the one before it.
+use Prim.Native.Nat.{ℕ, zero, suc, _+_, _*_, _/_, _%_, _<_}
+use mathlib.Core.Path.{_≡_, refl, _∙_, ap, subst}
 use mathlib.Core.Bool.{true, false}
 use mathlib.Core.List.{List, [], _∷_, _++_, flatten}
 use native.Mathlib.Omega.{arith}
@@ -9,7 +9,7 @@ use lib.ListN.{length, getD}
 use Rattle.basis.specs.Choice.{choose}
 use Rattle.basis.specs.Numbers.{isSet}
 use Rattle.wire.specs.declared.address.Address.{Address}
-use Rattle.wire.specs.Bytes.{isWhole}
+use Rattle.wire.specs.Bytes.{flagsOf, isWhole}
 use Rattle.reply.specs.declared.due.ReplyType.{ReplyType}
 use Rattle.reply.specs.declared.due.Head.{Head}
 use Rattle.reply.specs.declared.due.DataBytes.{DataBytes}
@@ -43,73 +43,97 @@ joined own l (Due.WithId h id revision) = refl
 joined own l (Due.WithProperties h d) = refl
 joined own l (Due.WithRecords h data1 k count) = ap (λ (z : List ℕ). headOf own h ++ z) (records-joined own (h .to) (h .hops) data1 l (countSent l k count) k)
 
--- the message that it begins with is a standard one: flags bit 4 is clear; of all types it is set in that of data alone
-abbrev pub Begins : Due → Type 0
-Begins Due.Nothing = Unit {0}
-Begins (Due.Alone h) = isSet 4 (typeBits (h .«reply_type»)) ≡ false
-Begins (Due.WithId h id revision) = isSet 4 (typeBits (h .«reply_type»)) ≡ false
-Begins (Due.WithProperties h d) = isSet 4 (typeBits (h .«reply_type»)) ≡ false
-Begins (Due.WithRecords h data1 k count) = isSet 4 (typeBits (h .«reply_type»)) ≡ false
+-- the message that it begins with is a standard one, flags bit 4 is clear, and has these hops
+pub record Opens (hops : ℕ) (h : Head) : Type 0 where
+  pub short : isSet 4 (typeBits (h .«reply_type»)) ≡ false
+  pub fresh : h .hops ≡ hops
 
--- hops leave it as it is
-over : (b q : ℕ) → q ≤ 15 → (16 * b + q) / 16 ≡ b
-over b q h = omega arith
+abbrev pub Begins : ℕ → Due → Type 0
+Begins hops Due.Nothing = Unit {0}
+Begins hops (Due.Alone h) = Opens hops h
+Begins hops (Due.WithId h id revision) = Opens hops h
+Begins hops (Due.WithProperties h d) = Opens hops h
+Begins hops (Due.WithRecords h data1 k count) = Opens hops h
+
+-- hops are added below the type bits and the extended bit
+sixteens : (type : ReplyType) → typeBits type ≡ 16 * (typeBits type / 16)
+sixteens ReplyType.Ack = refl
+sixteens ReplyType.Nak = refl
+sixteens ReplyType.CleanupAck = refl
+sixteens ReplyType.CleanupNak = refl
+sixteens ReplyType.IdBroadcast = refl
+sixteens ReplyType.Data = refl
 
 by-type : (type : ReplyType) (hops : ℕ) → isSet 4 (replyFlags type hops) ≡ isSet 4 (typeBits type)
-by-type type hops = go type
+by-type type hops =
+    let above : replyFlags type hops / 16 ≡ typeBits type / 16 = omega (arith, sixteens type) in
+    ap (λ (x : ℕ). eqb (x % 2) 1) above
+
+-- a message of a reply: whole, and with hops left, bits 3 and 2, and largest, bits 1 and 0, of a request that has these
+pub record Sound (hops : ℕ) (message : List ℕ) : Type 0 where
+  pub whole : isWhole message ≡ true
+  pub left : flagsOf message / 4 % 4 ≡ hops % 4
+  pub largest : flagsOf message % 4 ≡ hops % 4
+
+sound : (type : ReplyType) (hops : ℕ) (message : List ℕ) → flagsOf message ≡ replyFlags type hops → isWhole message ≡ true → Sound hops message
+sound type hops message f w = record { whole = w; left = ap (λ (x : ℕ). x / 4 % 4) f ∙ left-by; largest = omega (arith, f, sixteens type) }
   where
-    few : 5 * (hops % 4) ≤ 15
-    few = omega arith
+    fourth : replyFlags type hops / 4 ≡ 4 * (typeBits type / 16) + hops % 4
+    fourth = omega (arith, sixteens type)
 
-    bit : (b : ℕ) → eqb ((16 * b + 5 * (hops % 4)) / 16 % 2) 1 ≡ eqb (b % 2) 1
-    bit b = ap (λ (x : ℕ). eqb (x % 2) 1) (over b (5 * (hops % 4)) few)
+    below : (b q : ℕ) → q < 4 → (4 * b + q) % 4 ≡ q
+    below b q h = omega arith
 
-    go : (type : ReplyType) → isSet 4 (replyFlags type hops) ≡ isSet 4 (typeBits type)
-    go ReplyType.Ack = bit 0x2
-    go ReplyType.Nak = bit 0xa
-    go ReplyType.CleanupAck = bit 0x6
-    go ReplyType.CleanupNak = bit 0xe
-    go ReplyType.IdBroadcast = bit 0x8
-    go ReplyType.Data = bit 0x1
+    left-by : replyFlags type hops / 4 % 4 ≡ hops % 4
+    left-by = ap (λ (x : ℕ). x % 4) fourth ∙ below (typeBits type / 16) (hops % 4) (omega arith)
 
--- each of them is whole
-abbrev Each : List (List ℕ) → Type 0
-Each ms = (i : ℕ) → i < length ms → isWhole (getD ms i []) ≡ true
-
-none : Each []
-none i h = absurd (omega arith)
-
-next : (m : List ℕ) (ms : List (List ℕ)) → isWhole m ≡ true → Each ms → Each (m ∷ ms)
-next m ms w f zero h = w
-next m ms w f (suc i) h = f i (omega arith)
-
-standard-whole : (from to : Address) (type : ReplyType) (hops one two : ℕ) → isSet 4 (typeBits type) ≡ false → isWhole (standard from to type hops one two) ≡ true
+standard-sound : (from to : Address) (type : ReplyType) (hops one two : ℕ) → isSet 4 (typeBits type) ≡ false → Sound hops (standard from to type hops one two)
 unfolding choose
-standard-whole from to type hops one two e = rw (by-type type hops ∙ e)
+standard-sound from to type hops one two e = sound type hops _ refl (rw (by-type type hops ∙ e))
 
-head-whole : (own : Address) (h : Head) → isSet 4 (typeBits (h .«reply_type»)) ≡ false → isWhole (headOf own h) ≡ true
-head-whole own h e = standard-whole own (h .to) (h .«reply_type») (h .hops) (h .command1) (h .command2) e
+head-sound : (own : Address) (hops : ℕ) (h : Head) → Opens hops h → Sound hops (headOf own h)
+head-sound own hops h o =
+    subst (λ (n : ℕ). Sound n (headOf own h)) (o .fresh) (standard-sound own (h .to) (h .«reply_type») (h .hops) (h .command1) (h .command2) (o .short))
 
-record-whole : (own to : Address) (hops data1 : ℕ) (l : List ℕ) (k : ℕ) → isWhole (recordMessage own to hops data1 l k) ≡ true
+record-sound : (own to : Address) (hops data1 : ℕ) (l : List ℕ) (k : ℕ) → Sound hops (recordMessage own to hops data1 l k)
 unfolding choose
-record-whole own to hops data1 l k = rw (by-type ReplyType.Data hops)
+record-sound own to hops data1 l k = sound ReplyType.Data hops _ refl (rw (by-type ReplyType.Data hops))
 
-properties-whole : (own to : Address) (hops : ℕ) (d : DataBytes) → isWhole (extended own to hops 0x2e (dataBytes d)) ≡ true
+properties-sound : (own to : Address) (hops : ℕ) (d : DataBytes) → Sound hops (extended own to hops 0x2e (dataBytes d))
 unfolding choose
-properties-whole own to hops d = rw (by-type ReplyType.Data hops)
+properties-sound own to hops d = sound ReplyType.Data hops _ refl (rw (by-type ReplyType.Data hops))
 
-records-whole : (own to : Address) (hops data1 : ℕ) (l : List ℕ) (n k : ℕ) → Each (recordMessages own to hops data1 l n k)
-records-whole own to hops data1 l zero k = none
-records-whole own to hops data1 l (suc n) k = next _ (recordMessages own to hops data1 l n (k + 1)) (record-whole own to hops data1 l k) (records-whole own to hops data1 l n (k + 1))
+-- each of them is so
+abbrev pub Each : ℕ → List (List ℕ) → Type 0
+Each hops ms = (i : ℕ) → i < length ms → Sound hops (getD ms i [])
 
-pub each-whole : (own : Address) (l : List ℕ) (due : Due) → Begins due
-    → (i : ℕ) → i < length (messagesOf own l due) → isWhole (getD (messagesOf own l due) i []) ≡ true
-unfolding choose
-each-whole own l Due.Nothing e = none
-each-whole own l (Due.Alone h) e = next _ [] (head-whole own h e) none
-each-whole own l (Due.WithId h id revision) e =
-    next _ (_ ∷ []) (head-whole own h e) (next _ [] (standard-whole own id ReplyType.IdBroadcast (h .hops) 0x01 revision refl) none)
-each-whole own l (Due.WithProperties h d) e = next _ (_ ∷ []) (head-whole own h e) (next _ [] (properties-whole own (h .to) (h .hops) d) none)
-each-whole own l (Due.WithRecords h data1 k count) e =
-    let n : ℕ = countSent l k count in
-    next _ (recordMessages own (h .to) (h .hops) data1 l n k) (head-whole own h e) (records-whole own (h .to) (h .hops) data1 l n k)
+pub none : (hops : ℕ) → Each hops []
+none hops i h = absurd (omega arith)
+
+next : (hops : ℕ) (m : List ℕ) (ms : List (List ℕ)) → Sound hops m → Each hops ms → Each hops (m ∷ ms)
+next hops m ms w f zero h = w
+next hops m ms w f (suc i) h = f i (omega arith)
+
+records-sound : (own to : Address) (hops data1 : ℕ) (l : List ℕ) (n k : ℕ) → Each hops (recordMessages own to hops data1 l n k)
+records-sound own to hops data1 l zero k = none hops
+records-sound own to hops data1 l (suc n) k =
+    next hops _ (recordMessages own to hops data1 l n (k + 1)) (record-sound own to hops data1 l k) (records-sound own to hops data1 l n (k + 1))
+
+-- behind its head
+pub each-sound : (own : Address) (l : List ℕ) (hops : ℕ) (due : Due) → Begins hops due → Each hops (messagesOf own l due)
+each-sound own l hops due e = go due e
+  where
+    behind : (h : Head) (ms : List (List ℕ)) → Opens hops h → Each (h .hops) ms → Each hops (headOf own h ∷ ms)
+    behind h ms o f = next hops _ ms (head-sound own hops h o) (subst (λ (n : ℕ). Each n ms) (o .fresh) f)
+
+    alone : (n : ℕ) (m : List ℕ) → Sound n m → Each n (m ∷ [])
+    alone n m w = next n m [] w (none n)
+
+    go : (due : Due) → Begins hops due → Each hops (messagesOf own l due)
+    go Due.Nothing o = none hops
+    go (Due.Alone h) o = behind h [] o (none (h .hops))
+    go (Due.WithId h id revision) o = behind h (_ ∷ []) o (alone (h .hops) _ (standard-sound own id ReplyType.IdBroadcast (h .hops) 0x01 revision refl))
+    go (Due.WithProperties h d) o = behind h (_ ∷ []) o (alone (h .hops) _ (properties-sound own (h .to) (h .hops) d))
+    go (Due.WithRecords h data1 k count) o =
+        let n : ℕ = countSent l k count in
+        behind h (recordMessages own (h .to) (h .hops) data1 l n k) o (records-sound own (h .to) (h .hops) data1 l n k)

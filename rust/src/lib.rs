@@ -3,6 +3,7 @@
 //! - `paper`: the second reading, from the paper's words and what was decided on its open points
 //! - `library`, `program`: the proved code, as a call and as program `bench`
 //! - `random`, `messages`, `tally`: what is sent to both, and how often what came up
+//! - `left`: all that a call leaves behind
 //! - `framing`: modem frames, for the tests of the program
 //! - `example`: a message, and all that it must come to
 //!
@@ -12,6 +13,7 @@
 
 pub mod example;
 pub mod framing;
+pub mod left;
 pub mod library;
 pub mod messages;
 pub mod paper;

@@ -1,6 +1,7 @@
 //! Request 3: 0000 names record 0, as 0FFF does. Every expected byte was typed from the papers.
 
 use dreelish_tests::example::{reply, Example, LINKED, STRANGER};
+use dreelish_tests::left::Left;
 use dreelish_tests::library;
 use dreelish_tests::messages::{message, room_length, Scene};
 use dreelish_tests::paper::{checksum, ModuleKind};
@@ -107,8 +108,8 @@ fn run_scene(kind: ModuleKind, number: u64, results: &mut [usize; 9]) {
         if message.len() == 23 && message[7] == 0x2F && message[11..13] == [0x00, 0x00] {
             let by_zero = run(&scene, &fitted(&message, [0x00, 0x00]), &room);
             let by_name = run(&scene, &fitted(&message, [0x0F, 0xFF]), &room);
-            assert_eq!(by_zero, by_name, "scene {number}, {message:02X?}");
-            results[usize::from(by_zero.0)] += 1;
+            by_zero.assert_is(&by_name, &format!("scene {number}, {message:02X?}"));
+            results[usize::from(by_zero.outcome.result)] += 1;
         }
     }
 }
@@ -122,19 +123,7 @@ fn fitted(message: &[u8], address: [u8; 2]) -> Vec<u8> {
     message
 }
 
-/// Result, reply length, records read, module, link memory and room.
-type Left = (u8, usize, usize, Vec<u8>, Vec<u8>, Vec<u8>);
-
 fn run(scene: &Scene, message: &[u8], room: &[u8]) -> Left {
     let (mut image, mut links) = (library::image(&scene.module), scene.links.clone());
-    let mut room = room.to_vec();
-    let outcome = library::step(&mut image, &mut links, message, &mut room);
-    (
-        outcome.result,
-        outcome.length,
-        outcome.read,
-        image,
-        links,
-        room,
-    )
+    Left::by_library(&mut image, &mut links, message, room.to_vec())
 }

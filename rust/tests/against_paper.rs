@@ -2,9 +2,10 @@
 
 use std::collections::BTreeSet;
 
-use dreelish_tests::library::{self, Image};
+use dreelish_tests::left::{difference, Left};
+use dreelish_tests::library;
 use dreelish_tests::messages::{message, room_length, Scene};
-use dreelish_tests::paper::{self, ModuleKind, Outcome};
+use dreelish_tests::paper::ModuleKind;
 use dreelish_tests::random::Random;
 use dreelish_tests::tally::Tally;
 
@@ -14,15 +15,6 @@ const SEQUENCES: u64 = 40_000;
 const MESSAGES: usize = 50;
 /// Sequences over unfit link memory come to result 2 at every message, so a few messages are enough.
 const MESSAGES_UNFIT: usize = 15;
-
-/// All that one call leaves behind.
-#[derive(Clone, PartialEq)]
-struct State {
-    outcome: Outcome,
-    image: Image,
-    links: Vec<u8>,
-    room: Vec<u8>,
-}
 
 #[test]
 fn a_dimmer_does_what_the_paper_says() {
@@ -60,59 +52,16 @@ fn run_sequence(kind: ModuleKind, sequence: u64, tally: &mut Tally) -> usize {
         let message = message(&mut random, &scene);
         let room = vec![random.byte(); room_length(&mut random)];
         let before = (image.clone(), links.clone());
-        let by_library = run_library(&mut image, &mut links, &message, room.clone());
-        let by_paper = run_paper(&mut scene, &message, room);
+        let by_library = Left::by_library(&mut image, &mut links, &message, room.clone());
+        let by_paper = Left::by_paper(&mut scene.module, &mut scene.links, &message, room);
         if by_library != by_paper {
             let place = format!("{kind:?}, seed {SEED:#X}, sequence {sequence}, message {number}");
             panic!(
                 "{place}\n{}",
-                difference(before, &message, &by_library, &by_paper)
+                difference(&before.0, &before.1, &message, &by_library, &by_paper)
             );
         }
         tally.count(&message, by_paper.outcome.result);
     }
     links.len()
-}
-
-fn run_library(image: &mut [u8], links: &mut [u8], message: &[u8], mut room: Vec<u8>) -> State {
-    let outcome = library::step(image, links, message, &mut room);
-    State {
-        outcome,
-        image: image.to_vec(),
-        links: links.to_vec(),
-        room,
-    }
-}
-
-fn run_paper(scene: &mut Scene, message: &[u8], mut room: Vec<u8>) -> State {
-    let outcome = paper::step(&mut scene.module, &mut scene.links, message, &mut room);
-    State {
-        outcome,
-        image: library::image(&scene.module),
-        links: scene.links.clone(),
-        room,
-    }
-}
-
-fn difference(before: (Image, Vec<u8>), message: &[u8], library: &State, paper: &State) -> String {
-    let (image, links) = before;
-    format!(
-        "message  {message:02X?}\nmodule   {image:02X?}\nlinks    {links:02X?}\n\nlibrary: {}\n\npaper:   {}",
-        describe(library, &links),
-        describe(paper, &links),
-    )
-}
-
-fn describe(state: &State, links_before: &[u8]) -> String {
-    let altered: Vec<usize> = (0..links_before.len())
-        .filter(|&at| state.links[at] != links_before[at])
-        .collect();
-    let shown = state.room.len().min(state.outcome.length.max(64));
-    format!(
-        "{:?}\nmodule   {:02X?}\nbytes of link memory altered {altered:?}\nroom of {}: {:02X?}",
-        state.outcome,
-        state.image,
-        state.room.len(),
-        &state.room[..shown],
-    )
 }

@@ -1,8 +1,9 @@
 -- Every reply begins with a standard message, an ACK or a NAK, with the hops of its request.
 use Prim.Native.Nat.{ℕ}
-use mathlib.Core.Path.{refl}
-use mathlib.Core.Bool.{_||_}
+use mathlib.Core.Path.{_≡_, refl}
+use mathlib.Core.Bool.{false, _||_}
 use mathlib.Core.List.{List}
+use Rattle.basis.specs.Numbers.{isSet}
 use Rattle.basis.proofs.Choice.{either}
 use Rattle.wire.specs.declared.address.Address.{Address}
 use Rattle.wire.specs.declared.request.Request.{Request}
@@ -19,6 +20,7 @@ use Rattle.links.specs.Record.{isFit, records}
 use Rattle.links.specs.Search.{isFound, searchOf}
 use Rattle.links.proofs.Following.{by-found}
 use Rattle.reply.specs.declared.due.ReplyType.{ReplyType}
+use Rattle.reply.specs.Message.{typeBits}
 use Rattle.reply.proofs.Messages.{Opens, Begins}
 use Rattle.module.specs.declared.state.Module.{Module}
 use Rattle.module.specs.declared.deed.Ack.{Ack}
@@ -35,35 +37,25 @@ use Rattle.decide.specs.Ruling.{readRuling, kindRuling, rulingBy, ruling
 abbrev Begun : ℕ → Plan → Type 0
 Begun hops p = Begins hops (p .due)
 
-module _ (r : Request) (one two : ℕ) where
-  ack : Opens (r .hops) (headed ReplyType.Ack r one two)
-  ack = record { short = refl; fresh = refl }
-
-  nak : Opens (r .hops) (headed ReplyType.Nak r one two)
-  nak = record { short = refl; fresh = refl }
-
-  cleanup-ack : Opens (r .hops) (headed ReplyType.CleanupAck r one two)
-  cleanup-ack = record { short = refl; fresh = refl }
-
-  cleanup-nak : Opens (r .hops) (headed ReplyType.CleanupNak r one two)
-  cleanup-nak = record { short = refl; fresh = refl }
+opened : (type : ReplyType) (r : Request) (one two : ℕ) → isSet 4 (typeBits type) ≡ false → Opens (r .hops) (headed type r one two)
+opened type r one two e = record { short = e; fresh = refl }
 
 module _ (m : Module) (r : Request) where
-  ack-begins : (a : Ack) → Begins (r .hops) (dueOf m r a)
-  ack-begins Ack.Repeated = ack r _ _
-  ack-begins (Ack.Telling command2) = ack r _ _
-  ack-begins (Ack.AfterDelta command2) = ack r _ _
-  ack-begins Ack.WithId = ack r _ _
-  ack-begins (Ack.WithProperties d) = ack r _ _
-  ack-begins (Ack.WithRecords data1 k count) = ack r _ _
+  ack-begins : (ack : Ack) → Begins (r .hops) (dueOf m r ack)
+  ack-begins Ack.Repeated = opened ReplyType.Ack r _ _ refl
+  ack-begins (Ack.Telling command2) = opened ReplyType.Ack r _ _ refl
+  ack-begins (Ack.AfterDelta command2) = opened ReplyType.Ack r _ _ refl
+  ack-begins Ack.WithId = opened ReplyType.Ack r _ _ refl
+  ack-begins (Ack.WithProperties d) = opened ReplyType.Ack r _ _ refl
+  ack-begins (Ack.WithRecords data1 k count) = opened ReplyType.Ack r _ _ refl
 
   deed-begins : (deed : Deed) → Begun (r .hops) (deedPlan m r deed)
-  deed-begins (Deed.Done change a) = ack-begins a
-  deed-begins Deed.Unlisted = nak r _ _
+  deed-begins (Deed.Done change ack) = ack-begins ack
+  deed-begins Deed.Unlisted = opened ReplyType.Nak r _ _ refl
 
 cleanup-begins : (r : Request) (deed : GroupDeed) → Begun (r .hops) (cleanupBy r deed)
-cleanup-begins r (GroupDeed.Done change) = cleanup-ack r _ _
-cleanup-begins r GroupDeed.Unlisted = cleanup-nak r _ _
+cleanup-begins r (GroupDeed.Done change) = opened ReplyType.CleanupAck r _ _ refl
+cleanup-begins r GroupDeed.Unlisted = opened ReplyType.CleanupNak r _ _ refl
 
 -- a broadcast is not answered
 broadcast-begins : (hops : ℕ) (deed : GroupDeed) → Begun hops (broadcastBy deed)
@@ -78,11 +70,11 @@ module _ (m : Module) (l d : List ℕ) where
   unfolding directPlan
   direct r command =
       either (Begun (r .hops)) (needsNoLink command || isFound (searchOf l (wantedOf (MessageKind.Direct r command)) .found))
-      (deed-begins m r (deedOf m r d (records l) command)) (nak r _ _)
+      (deed-begins m r (deedOf m r d (records l) command)) (opened ReplyType.Nak r _ _ refl)
 
   cleanup : (r : Request) (command : GroupCommand) → Answered (r .hops) (MessageKind.Cleanup r command)
   cleanup r command =
-      by-found (Begun (r .hops)) (searchOf l (wantedOf (MessageKind.Cleanup r command)) .found) _ _ (λ link. cleanup-begins r (groupDeedOf m command link)) (cleanup-nak r _ _)
+      by-found (Begun (r .hops)) (searchOf l (wantedOf (MessageKind.Cleanup r command)) .found) _ _ (λ link. cleanup-begins r (groupDeedOf m command link)) (opened ReplyType.CleanupNak r _ _ refl)
 
   broadcast : (hops : ℕ) (from to : Address) (command : GroupCommand) → Answered hops (MessageKind.Broadcast from to command)
   broadcast hops from to command =

@@ -8,7 +8,7 @@ use Rattle.module.specs.Module.{freshOutlet}
 use Rattle.module.specs.Change.{withFlags, withLed, withX10, withDelta, withLoad}
 use Rattle.promises.specs.Bench.{fresh, us, linked, stranger, zeros, first-record, other-record, memory}
 use Rattle.promises.specs.Bench.{direct, long, cleanup, broadcast, reply, room}
-use Rattle.promises.specs.Examples.{head, database}
+use Rattle.promises.specs.Examples.{database}
 use Rattle.promises.specs.Table.{Example, row}
 
 unfoldable pub outlet : Module

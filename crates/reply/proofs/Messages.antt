@@ -12,7 +12,6 @@ use Rattle.wire.specs.declared.address.Address.{Address}
 use Rattle.wire.specs.Bytes.{flagsOf, isWhole}
 use Rattle.reply.specs.declared.due.ReplyType.{ReplyType}
 use Rattle.reply.specs.declared.due.Head.{Head}
-use Rattle.reply.specs.declared.due.DataBytes.{DataBytes}
 use Rattle.reply.specs.declared.due.Due.{Due}
 use Rattle.reply.specs.Message.{typeBits, replyFlags, standard, extended, headOf, dataBytes}
 use Rattle.reply.specs.Records.{recordMessage, recordsFrom, countSent}
@@ -95,13 +94,9 @@ head-sound : (own : Address) (hops : ℕ) (h : Head) → Opens hops h → Sound 
 head-sound own hops h o =
     subst (λ (n : ℕ). Sound n (headOf own h)) (o .fresh) (standard-sound own (h .to) (h .«reply_type») (h .hops) (h .command1) (h .command2) (o .short))
 
-record-sound : (own to : Address) (hops data1 : ℕ) (l : List ℕ) (k : ℕ) → Sound hops (recordMessage own to hops data1 l k)
+extended-sound : (from to : Address) (hops one : ℕ) (bytes : List ℕ) → length bytes ≡ 14 → Sound hops (extended from to hops one bytes)
 unfolding choose
-record-sound own to hops data1 l k = sound ReplyType.Data hops _ refl (rw (by-type ReplyType.Data hops))
-
-properties-sound : (own to : Address) (hops : ℕ) (d : DataBytes) → Sound hops (extended own to hops 0x2e (dataBytes d))
-unfolding choose
-properties-sound own to hops d = sound ReplyType.Data hops _ refl (rw (by-type ReplyType.Data hops))
+extended-sound from to hops one bytes e = sound ReplyType.Data hops _ refl (rw (by-type ReplyType.Data hops, e))
 
 -- each of them is so
 abbrev pub Each : ℕ → List (List ℕ) → Type 0
@@ -117,7 +112,7 @@ next hops m ms w f (suc i) h = f i (omega arith)
 records-sound : (own to : Address) (hops data1 : ℕ) (l : List ℕ) (n k : ℕ) → Each hops (recordMessages own to hops data1 l n k)
 records-sound own to hops data1 l zero k = none hops
 records-sound own to hops data1 l (suc n) k =
-    next hops _ (recordMessages own to hops data1 l n (k + 1)) (record-sound own to hops data1 l k) (records-sound own to hops data1 l n (k + 1))
+    next hops _ (recordMessages own to hops data1 l n (k + 1)) (extended-sound own to hops 0x2f _ refl) (records-sound own to hops data1 l n (k + 1))
 
 -- behind its head
 pub each-sound : (own : Address) (l : List ℕ) (hops : ℕ) (due : Due) → Begins hops due → Each hops (messagesOf own l due)
@@ -133,7 +128,7 @@ each-sound own l hops due e = go due e
     go Due.Nothing o = none hops
     go (Due.Alone h) o = behind h [] o (none (h .hops))
     go (Due.WithId h id revision) o = behind h (_ ∷ []) o (alone (h .hops) _ (standard-sound own id ReplyType.IdBroadcast (h .hops) 0x01 revision refl))
-    go (Due.WithProperties h d) o = behind h (_ ∷ []) o (alone (h .hops) _ (properties-sound own (h .to) (h .hops) d))
+    go (Due.WithProperties h d) o = behind h (_ ∷ []) o (alone (h .hops) _ (extended-sound own (h .to) (h .hops) 0x2e (dataBytes d) refl))
     go (Due.WithRecords h data1 k count) o =
         let n : ℕ = countSent l k count in
         behind h (recordMessages own (h .to) (h .hops) data1 l n k) o (records-sound own (h .to) (h .hops) data1 l n k)

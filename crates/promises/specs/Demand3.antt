@@ -31,7 +31,8 @@ abbrev pub NakExactly : Type 0
 NakExactly =
     (m : Module) (l s room : List ℕ) → isFit l ≡ true → wellFormed s (m .identity .address) ≡ true → isDirect s ≡ true →
     length (dueTo m l s) ≤ length room →
-    (stepOf m l s room .reply ≡ standard (m .identity .address) (fromOf s) ReplyType.Nak (hopsOf s) (command1Of s) 0xff) ↔ ((pingOrId s ≡ false) × Stranger l s)
+    (stepOf m l s room .reply ≡ standard (m .identity .address) (fromOf s) ReplyType.Nak (hopsOf s) (command1Of s) 0xff) ↔
+    ((pingOrId s ≡ false) × Stranger l s)
 
 -- to a stranger of both memories two modules of equal identity, of one kind or of two, send equal bytes, whatever the message
 abbrev pub LearnsNothing : Type 0

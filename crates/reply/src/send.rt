@@ -48,7 +48,10 @@ fn send_head(room: &mut [u8], own: Address, head: Head) -> Sent
 }
 
 fn send_id(room: &mut [u8], own: Address, head: Head, id: Address, revision: u8) -> Sent
-    ensures { λ r. ⌜ Sending (headOf own head ++ standard own id ReplyType.IdBroadcast (head .hops) 0x01 revision) (now (room .entry)) r (now (room .exit)) ⌝ }
+    ensures { λ r. ⌜
+        Sending (headOf own head ++ standard own id ReplyType.IdBroadcast (head .hops) 0x01 revision)
+        (now (room .entry)) r (now (room .exit))
+        ⌝ }
 {
     if room.len() < 18 {
         return Sent::Short;

@@ -4,3 +4,4 @@ pub mod Replied
 pub mod Lasting
 pub mod Lent
 pub mod Parts
+pub mod Counted

@@ -7,6 +7,7 @@ use lib.ListN.{length, take, drop}
 use Rattle.basis.specs.Choice.{choose}
 use Rattle.basis.specs.Laid.{laid}
 use Rattle.links.specs.Write.{writtenIfThere}
+use Rattle.wire.specs.declared.kind.Message.{Message}
 use Rattle.reply.specs.declared.due.Due.{Due}
 use Rattle.reply.specs.declared.send.Sent.{Sent}
 use Rattle.reply.specs.Reply.{replyOf}
@@ -19,7 +20,7 @@ use Rattle.module.specs.Change.{apply}
 use Rattle.module.specs.Plan.{refused}
 use Rattle.decide.specs.declared.rule.Ruling.{Ruling}
 use Rattle.device.specs.declared.step.Answer.{Answer}
-use Rattle.decide.specs.Ruling.{heardBy, rulingOf}
+use Rattle.decide.specs.Ruling.{heardBy, rulingBy}
 
 -- all that comes out of a call
 pub record Step : Type 0 where
@@ -61,8 +62,12 @@ finishOf m l d room r =
     let reply : List ℕ = replyOf (m .identity .address) l (r .plan .due) in
     choose (ltb (length room) (length reply)) (shortOf m l room r) (servedOf m l d room reply r)
 
+-- of a message as it was read
+abbrev pub stepBy : Module → List ℕ → Message → List ℕ → Step
+stepBy m l heard room = finishOf m l (heard .«data») room (rulingBy m l heard)
+
 abbrev pub stepOf : Module → List ℕ → List ℕ → List ℕ → Step
-stepOf m l s room = finishOf m l (heardBy m s .«data») room (rulingOf m l s)
+stepOf m l s room = stepBy m l (heardBy m s) room
 
 -- by what sending the reply came to: the plan that stands, and the length
 abbrev pub ifSent : Sent → Plan → Plan
@@ -74,11 +79,14 @@ lengthOf (Sent.Whole n) = n
 lengthOf Sent.Short = 0
 
 -- what a call promises: its answer, the link memory and the room afterwards
-pub record StepPromise (m : Module) (l s room : List ℕ) (answer : Answer) (links after : List ℕ) : Type 0 where
-  pub number : numberOf (answer .outcome) ≡ numberOf (stepOf m l s room .outcome)
-  pub outcome : answer .outcome ≡ stepOf m l s room .outcome
-  pub sent : answer .length ≡ length (stepOf m l s room .reply)
-  pub read : answer .read ≡ stepOf m l s room .read
-  pub next : answer .next ≡ stepOf m l s room .next
-  pub memory : links ≡ stepOf m l s room .links
-  pub room-after : after ≡ stepOf m l s room .room
+pub record Comes (t : Step) (answer : Answer) (links after : List ℕ) : Type 0 where
+  pub number : numberOf (answer .outcome) ≡ numberOf (t .outcome)
+  pub outcome : answer .outcome ≡ t .outcome
+  pub sent : answer .length ≡ length (t .reply)
+  pub read : answer .read ≡ t .read
+  pub next : answer .next ≡ t .next
+  pub memory : links ≡ t .links
+  pub room-after : after ≡ t .room
+
+abbrev pub StepPromise : Module → List ℕ → List ℕ → List ℕ → Answer → List ℕ → List ℕ → Type 0
+StepPromise m l s room answer links after = Comes (stepOf m l s room) answer links after

@@ -9,9 +9,10 @@ use reply::due::Due;
 use reply::send::Sent;
 use reply::send::send;
 use results::Outcome;
+use wire::kind::Message;
 use wire::read::read;
 ghost use mathlib.Core.Path.{_≡_};
-ghost use Rattle.device.specs.Step.{linksAfter, ifSent, lengthOf, StepPromise};
+ghost use Rattle.device.specs.Step.{linksAfter, ifSent, lengthOf, stepBy, Comes, StepPromise};
 
 // What a call answers: the reply's length and the module afterwards beside the outcome and the records read.
 pub struct Answer {
@@ -25,13 +26,20 @@ pub fn step(m: Module, links: &mut [u8], message: &[u8], room: &mut [u8]) -> Ans
     ensures { λ r. ⌜ StepPromise m (now (links .entry)) (now (message .entry)) (now (room .entry)) r (now (links .exit)) (now (room .exit)) ⌝ }
 {
     let identity = m.identity;
-    let own = identity.address;
-    let heard = read(message, own);
+    let heard = read(message, identity.address);
+    serve(m, links, heard, room)
+}
+
+// The same of a message as it was read, for whoever reads once for several modules.
+pub fn serve(m: Module, links: &mut [u8], heard: Message, room: &mut [u8]) -> Answer
+    ensures { λ r. ⌜ Comes (stepBy m (now (links .entry)) heard (now (room .entry))) r (now (links .exit)) (now (room .exit)) ⌝ }
+{
+    let identity = m.identity;
     let data = heard.data;
     let ruling = ruling_by(m, links, heard);
     let decided = ruling.plan;
     let due = decided.due;
-    let sent = send(room, own, links, due);
+    let sent = send(room, identity.address, links, due);
     let plan = if_sent(sent, decided);
     write_planned(links, data, plan);
     let outcome = plan.outcome;

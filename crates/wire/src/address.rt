@@ -9,7 +9,7 @@ pub struct Address {
 }
 
 impl Address {
-    pub(crate) fn equals(self, other: Address) -> bool
+    pub fn equals(self, other: Address) -> bool
         ensures { λ r. ⌜ r ≡ equals self other ⌝ }
     {
         (self.high == other.high) & (self.middle == other.middle) & (self.low == other.low)

@@ -1,4 +1,4 @@
-/* The bench modules for C: one message to one module. Link with libembed.a. */
+/* The bench modules for C: one message to one module, or to a class. Link with libembed.a, and for a class with libembed_class.a. */
 #ifndef DREELISH_H
 #define DREELISH_H
 
@@ -10,7 +10,8 @@
 #define DREELISH_DIMMER_LENGTH 16 /* and the bytes of each */
 #define DREELISH_OUTLET_LENGTH 15
 #define DREELISH_ROOM 5897        /* room for the longest reply */
-#define DREELISH_UNFIT 255        /* no such kind, a module of another length than its kind's, or a report shorter than 2 */
+#define DREELISH_SEATS 16         /* the most modules of a class */
+#define DREELISH_UNFIT 255        /* no such kind, modules of other lengths than their kinds', or a report shorter than 2 */
 
 /*
  * module, by places; it is brought up to date from 8 on, and what stands before is never written:
@@ -25,6 +26,16 @@
  * any of them may be empty.
  */
 uint64_t dreelish_step(uint8_t *module, size_t module_length, uint8_t *links, size_t links_length, const uint8_t *message,
+    size_t message_length, uint8_t *room, size_t room_length, uint64_t *report, size_t report_length);
+
+/*
+ * The same to a class. modules: `count` modules by places as above, each directly behind the one before it, and nothing else. links: one link
+ * memory, whose equal parts are the modules' own, in their order.
+ *
+ * The answer is the result number, 0 to 11, or DREELISH_UNFIT, with which nothing is altered; a count that does not fit the bytes is so. With
+ * more than DREELISH_SEATS modules it is 11, and they are left as they stand.
+ */
+uint64_t dreelish_class_step(uint8_t *modules, size_t modules_length, size_t count, uint8_t *links, size_t links_length, const uint8_t *message,
     size_t message_length, uint8_t *room, size_t room_length, uint64_t *report, size_t report_length);
 
 #endif

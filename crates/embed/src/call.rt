@@ -1,10 +1,11 @@
 // One message to the module that an image holds.
-use crate::image::is_image;
-use crate::image::module_of;
-use crate::store::store;
 use device::step::step;
+use image::held::held_in;
+use image::report::tell;
+use image::store::store;
 use results::number;
-ghost use Rattle.embed.specs.Call.{CallPromise};
+ghost use Rattle.image.specs.Returned.{Returns};
+ghost use Rattle.embed.specs.Call.{returnedOf};
 
 // The number of an image or a report that does not fit.
 const UNFIT: u64 = 255;
@@ -18,22 +19,22 @@ pub extern "C" fn dreelish_step(
     report: &mut [u64],
 ) -> u64
     ensures { λ r. ⌜
-        CallPromise (now (image .entry)) (now (links .entry)) (now (message .entry)) (now (room .entry)) (now (report .entry))
+        Returns (returnedOf (now (image .entry)) (now (links .entry)) (now (message .entry)) (now (room .entry)) (now (report .entry)))
         r (now (image .exit)) (now (links .exit)) (now (room .exit)) (now (report .exit))
         ⌝ }
 {
-    if !is_image(image) {
+    let held = held_in(image);
+    if !held.is_one {
         return UNFIT;
     }
     if report.len() < 2 {
         return UNFIT;
     }
-    let m = module_of(image);
+    let m = held.module;
     let answer = step(m, links, message, room);
     let next = answer.next;
     store(image, next);
-    report[0] = answer.length as u64;
-    report[1] = answer.read as u64;
+    tell(report, answer.length, answer.read);
     let outcome = answer.outcome;
     number(outcome) as u64
 }

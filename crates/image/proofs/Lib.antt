@@ -1,0 +1,3 @@
+-- Laws of images.
+pub mod Whole
+pub mod Sized

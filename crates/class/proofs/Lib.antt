@@ -1,0 +1,17 @@
+-- Laws of a row.
+pub mod Fit
+pub mod Shared
+pub mod Runs
+pub mod Named
+pub mod Readings
+pub mod Rounds
+pub mod Noticed
+pub mod Again
+pub mod Element
+pub mod Machine
+pub mod AskTurn
+pub mod AskTend
+pub mod AskOpen
+pub mod Cut
+pub mod Lasting
+pub mod Lent

@@ -1,0 +1,23 @@
+use borrow.Author.Needs.{needs}
+use borrow.Author.Tests.{lt-ltb, le-ltb}
+use Rattle.basis.specs.Choice.{choose}
+use Rattle.class.proofs.turn.noted.Statement.{statement}
+use Rattle.class.proofs.turn.noted.Tie as tie
+
+goes-on : tie.Need-returns
+unfolding choose
+goes-on c = rw (lt-ltb _ _ (c .if1 .taken), c .before .before .before .before .with-name .ensures)
+
+last : tie.Need-returns-2
+unfolding choose
+last c = rw (le-ltb _ _ (c .before .if1 .left)) (rw (c .before .before .before .before .before .with-name .ensures) at (c .settled .ensures))
+
+pub noted-spec : {M : Type 1} → statement M
+noted-spec =
+    tie.close
+    (tie.spec
+    (λ c. search needs)
+    (λ c κs. search needs)
+    goes-on
+    (λ c κs. search needs)
+    last)

@@ -1,5 +1,4 @@
 -- Laws of what a desk comes to.
-pub mod Same
 pub mod Ahead
 pub mod Passed
 pub mod Held

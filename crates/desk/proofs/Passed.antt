@@ -5,60 +5,58 @@ use mathlib.Core.List.{List, [], _∷_, _++_, map-append, append-assoc, append-n
 use native.Mathlib.Omega.{arith}
 use lib.ListN.{length, take, drop}
 use lib.Seq.{drop-drop}
-use Rattle.results.specs.Number.{numberOf}
-use Rattle.device.specs.Step.{Step}
-use Rattle.device.specs.Run.{State, Said, callOf, leftBy, saidOf, runOf, endOf}
-use Rattle.device.proofs.Parts.{run-parts, end-parts}
-use Rattle.device.proofs.Lent.{room-alike}
+use Rattle.seating.specs.Heed.{Heed}
+use Rattle.seating.specs.Sat.{Sat, Told, heedIn, satBy, heedAll, satAfter, toldBy}
+use Rattle.seating.proofs.Laws.{heed-parts, sat-parts, heed-alike}
 use Rattle.modem.specs.declared.arrived.Seen.{Seen}
 use Rattle.modem.specs.Arrived.{seekOf}
 use Rattle.modem.specs.Stream.{Cut, cut, callIn, callsIn}
 use Rattle.modem.proofs.Cut.{waiting, whole-first, short, in-pieces}
 use Rattle.desk.specs.declared.answer.Desk.{Desk}
-use Rattle.desk.specs.Desk.{stateOf, Answered}
+use Rattle.desk.specs.Desk.{satAt, Answered}
 use Rattle.desk.specs.Tally.{countedAt, counted, countedAll}
 use Rattle.desk.specs.Passed.{Passed, Unfinished, ArrivedPromise}
 use Rattle.desk.proofs.Ahead.{Next, Rest}
 
 -- counted in two parts
-count-parts : (tally : List ℕ) (first second : List Step) → countedAll tally (first ++ second) ≡ countedAll (countedAll tally first) second
+count-parts : (tally : List ℕ) (first second : List Heed) → countedAll tally (first ++ second) ≡ countedAll (countedAll tally first) second
 unfolding countedAll
 count-parts tally [] second = refl
 count-parts tally (t ∷ first) second = count-parts (counted tally t) first second
 
--- one room or another of its length: the same state, and the same counts
+-- one room or another of its length: the same seats, and the same counts
 module _ (room room' : List ℕ) (e : length room ≡ length room') where
-  alike : (st : State) (frame : List ℕ) → saidOf (callOf st (callIn room frame)) ≡ saidOf (callOf st (callIn room' frame))
-  alike st frame = room-alike st (drop 2 frame) room room' e
+  alike : (st : Sat) (frame : List ℕ) → toldBy st (heedIn st (callIn room frame)) ≡ toldBy st (heedIn st (callIn room' frame))
+  alike st frame = heed-alike (st .seating) (st .links) (drop 2 frame) room room' e
 
-  left-alike : (st : State) (frame : List ℕ) → leftBy (callOf st (callIn room frame)) ≡ leftBy (callOf st (callIn room' frame))
-  left-alike st frame = ap (λ (x : Said). x .left) (alike st frame)
+  left-alike : (st : Sat) (frame : List ℕ) → satBy st (heedIn st (callIn room frame)) ≡ satBy st (heedIn st (callIn room' frame))
+  left-alike st frame = ap (λ (x : Told). x .left) (alike st frame)
 
-  end-alike : (st : State) (frames : List (List ℕ)) → endOf st (callsIn room frames) ≡ endOf st (callsIn room' frames)
-  unfolding endOf
+  end-alike : (st : Sat) (frames : List (List ℕ)) → satAfter st (callsIn room frames) ≡ satAfter st (callsIn room' frames)
+  unfolding satAfter
   end-alike st [] = refl
   end-alike st (f ∷ frames) =
-      end-alike (leftBy (callOf st (callIn room f))) frames
-      ∙ ap (λ (z : State). endOf z (callsIn room' frames)) (left-alike st f)
+      end-alike (satBy st (heedIn st (callIn room f))) frames
+      ∙ ap (λ (z : Sat). satAfter z (callsIn room' frames)) (left-alike st f)
 
-  count-alike : (st : State) (tally : List ℕ) (frames : List (List ℕ))
-      → countedAll tally (runOf st (callsIn room frames)) ≡ countedAll tally (runOf st (callsIn room' frames))
-  unfolding runOf countedAll
+  count-alike : (st : Sat) (tally : List ℕ) (frames : List (List ℕ))
+      → countedAll tally (heedAll st (callsIn room frames)) ≡ countedAll tally (heedAll st (callsIn room' frames))
+  unfolding heedAll countedAll
   count-alike st tally [] = refl
   count-alike st tally (f ∷ frames) =
-      count-alike (leftBy (callOf st (callIn room f))) (counted tally (callOf st (callIn room f))) frames
-      ∙ (λ i. countedAll (countedAt tally (numberOf (alike st f i .outcome))) (runOf (left-alike st f i) (callsIn room' frames)))
+      count-alike (satBy st (heedIn st (callIn room f))) (counted tally (heedIn st (callIn room f))) frames
+      ∙ (λ i. countedAll (countedAt (countedAt tally (alike st f i .number)) (12 + alike st f i .place)) (heedAll (left-alike st f i) (callsIn room' frames)))
 
 -- nothing is done yet, with the desk open or closed
-pub still : (desk after : Desk) (l room s : List ℕ) → stateOf after l ≡ stateOf desk l → after .tally ≡ desk .tally → Passed desk l room s after l s
-unfolding endOf runOf countedAll
+pub still : (desk after : Desk) (l room s : List ℕ) → satAt after l ≡ satAt desk l → after .tally ≡ desk .tally → Passed desk l room s after l s
+unfolding satAfter heedAll countedAll
 still desk after l room s p q = record { served = []; frames = refl; kept = refl; state = p; tally = q }
 
 -- the next frame is served
 pub one : (desk after : Desk) (l room s links : List ℕ) (k n : ℕ) → seekOf s ≡ Seen.Whole k n
-    → Answered desk (callOf (stateOf desk l) (callIn room (take n (drop k s)))) after links
+    → Answered desk l (heedIn (satAt desk l) (callIn room (take n (drop k s)))) after links
     → Passed desk l room s after links (drop (k + n) s)
-unfolding endOf runOf countedAll
+unfolding satAfter heedAll countedAll
 one desk after l room s links k n e a =
     let c = whole-first s k n e in
     record {
@@ -73,22 +71,22 @@ one desk after l room s links k n e a =
 module _ (before middle after : Desk) (l l' l'' room room' : List ℕ) (e : length room' ≡ length room) (s rest left : List ℕ) where
   pub then : Passed before l room s middle l' rest → Passed middle l' room' rest after l'' left → Passed before l room s after l'' left
   then p q =
-      let st : State = stateOf before l in
+      let st : Sat = satAt before l in
       let calls = map-append (callIn room) (p .served) (q .served) in
-      let middle-is : stateOf middle l' ≡ endOf st (callsIn room (p .served)) = p .state in
-      let states : stateOf after l'' ≡ endOf st (callsIn room (p .served ++ q .served)) =
+      let middle-is : satAt middle l' ≡ satAfter st (callsIn room (p .served)) = p .state in
+      let states : satAt after l'' ≡ satAfter st (callsIn room (p .served ++ q .served)) =
       q .state
-      ∙ end-alike room' room e (stateOf middle l') (q .served)
-      ∙ ap (λ (z : State). endOf z (callsIn room (q .served))) middle-is
-      ∙ sym (end-parts st (callsIn room (p .served)) (callsIn room (q .served)))
-      ∙ ap (endOf st) (sym calls) in
-      let counts : after .tally ≡ countedAll (before .tally) (runOf st (callsIn room (p .served ++ q .served))) =
+      ∙ end-alike room' room e (satAt middle l') (q .served)
+      ∙ ap (λ (z : Sat). satAfter z (callsIn room (q .served))) middle-is
+      ∙ sym (sat-parts st (callsIn room (p .served)) (callsIn room (q .served)))
+      ∙ ap (satAfter st) (sym calls) in
+      let counts : after .tally ≡ countedAll (before .tally) (heedAll st (callsIn room (p .served ++ q .served))) =
       q .tally
-      ∙ count-alike room' room e (stateOf middle l') (middle .tally) (q .served)
-      ∙ (λ i. countedAll (p .tally i) (runOf (middle-is i) (callsIn room (q .served))))
-      ∙ sym (count-parts (before .tally) (runOf st (callsIn room (p .served))) (runOf (endOf st (callsIn room (p .served))) (callsIn room (q .served))))
-      ∙ ap (countedAll (before .tally)) (sym (run-parts st (callsIn room (p .served)) (callsIn room (q .served))))
-      ∙ ap (λ z. countedAll (before .tally) (runOf st z)) (sym calls) in
+      ∙ count-alike room' room e (satAt middle l') (middle .tally) (q .served)
+      ∙ (λ i. countedAll (p .tally i) (heedAll (middle-is i) (callsIn room (q .served))))
+      ∙ sym (count-parts (before .tally) (heedAll st (callsIn room (p .served))) (heedAll (satAfter st (callsIn room (p .served))) (callsIn room (q .served))))
+      ∙ ap (countedAll (before .tally)) (sym (heed-parts st (callsIn room (p .served)) (callsIn room (q .served))))
+      ∙ ap (λ z. countedAll (before .tally) (heedAll st z)) (sym calls) in
       record {
         served = p .served ++ q .served;
         frames = p .frames ∙ ap (λ (z : List (List ℕ)). p .served ++ z) (q .frames) ∙ sym (append-assoc (p .served) (q .served) (cut left .frames));
@@ -147,7 +145,7 @@ module _ (before desk : Desk) (l room s links : List ℕ) (used : ℕ) (p : Pass
       }
 
   pub one-more : (after : Desk) (room' links' : List ℕ) → length room' ≡ length room → (k n : ℕ) → Next used s k n
-      → Answered desk (callOf (stateOf desk links) (callIn room' (take n (drop k s)))) after links'
+      → Answered desk links (heedIn (satAt desk links) (callIn room' (take n (drop k s)))) after links'
       → Passed before l room s after links' (drop (k + n) s)
   one-more after room' links' e k n f a =
       let at-frame : drop (f .at) (drop used s) ≡ drop k s = drop-drop (f .at) used s ∙ ap (λ (z : ℕ). drop z s) (sym (f .place)) in

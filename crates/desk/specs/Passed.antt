@@ -4,11 +4,11 @@ use mathlib.Core.Path.{_≡_}
 use mathlib.Core.Bool.{true}
 use mathlib.Core.List.{List, [], _++_}
 use lib.ListN.{length, take, drop}
-use Rattle.device.specs.Run.{runOf, endOf}
+use Rattle.seating.specs.Sat.{heedAll, satAfter}
 use Rattle.modem.specs.Stream.{cut, callsIn}
 use Rattle.desk.specs.declared.answer.Desk.{Desk}
 use Rattle.desk.specs.declared.serve.Progress.{Progress}
-use Rattle.desk.specs.Desk.{stateOf}
+use Rattle.desk.specs.Desk.{satAt}
 use Rattle.desk.specs.Tally.{countedAll}
 
 -- the frames of s that stand before what is left were served, each once and in their order
@@ -16,8 +16,8 @@ pub record Passed (before : Desk) (l room s : List ℕ) (after : Desk) (links le
   pub served : List (List ℕ)
   pub frames : cut s .frames ≡ served ++ cut left .frames
   pub kept : cut s .kept ≡ cut left .kept
-  pub state : stateOf after links ≡ endOf (stateOf before l) (callsIn room served)
-  pub tally : after .tally ≡ countedAll (before .tally) (runOf (stateOf before l) (callsIn room served))
+  pub state : satAt after links ≡ satAfter (satAt before l) (callsIn room served)
+  pub tally : after .tally ≡ countedAll (before .tally) (heedAll (satAt before l) (callsIn room served))
 
 -- no whole frame, and no byte that can be skipped
 abbrev pub Unfinished : List ℕ → Type 0

@@ -1,19 +1,18 @@
--- How many frames had each result.
+-- How many frames had each result, and of a class how many were for each seat, and for every seat.
 use Prim.Native.Nat.{ℕ, _+_, _%_, _^_}
 use mathlib.Core.List.{List, [], _∷_}
 use lib.ListN.{getD, set}
-use Rattle.results.specs.Number.{numberOf}
-use Rattle.device.specs.Step.{Step}
+use Rattle.seating.specs.Heed.{Heed}
 
--- one more with this result; a count that is full begins anew
+-- one more at this place; a count that is full begins anew
 abbrev pub countedAt : List ℕ → ℕ → List ℕ
 countedAt tally k = set tally k ((getD tally k 0 + 1) % 2 ^ 64)
 
--- what came of a frame, counted
-abbrev pub counted : List ℕ → Step → List ℕ
-counted tally t = countedAt tally (numberOf (t .outcome))
+-- what came of a frame: its result, and behind the twelve results the seat that it was for
+abbrev pub counted : List ℕ → Heed → List ℕ
+counted tally t = countedAt (countedAt tally (t .number)) (12 + t .place)
 
 -- and of one frame after another
-unfoldable pub countedAll : List ℕ → List Step → List ℕ
+unfoldable pub countedAll : List ℕ → List Heed → List ℕ
 countedAll tally [] = tally
 countedAll tally (t ∷ ts) = countedAll (counted tally t) ts

@@ -57,6 +57,26 @@ pub(crate) fn load(memory: &mut [u8]) -> Loaded
     loaded
 }
 
+// The text of the file `row`; where it is missing, that is said too.
+pub(crate) fn load_row(text: &mut [u8]) -> Loaded
+    ensures { λ r. ⌜ Counts (r .size) (now (text .exit)) ⌝ }
+{
+    let fd = os::open_read(b"row");
+    if fd < 0 {
+        os::fail(b"row");
+        return Loaded {
+            size: 0,
+            is_fine: false,
+        };
+    }
+    let loaded = fill(fd, text);
+    if !loaded.is_fine {
+        os::fail(b"row");
+    }
+    libc::close(fd);
+    loaded
+}
+
 fn fill(fd: i32, memory: &mut [u8]) -> Loaded
     ensures { λ r. ⌜ Counts (r .size) (now (memory .exit)) ⌝ }
 {

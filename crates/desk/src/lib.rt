@@ -1,4 +1,4 @@
-// What `bench` and `screen` share: link memory from links.bin, frames from standard input, one module ("The program").
+// What the programs share: link memory from links.bin, frames from standard input, and who sits there ("The program").
 mod answer;
 mod input;
 mod seat;
@@ -6,11 +6,19 @@ mod serve;
 mod word;
 
 use input::load;
-use seat::Kind;
+use input::load_row;
+use libc::STDERR_FILENO;
+use roster::roster::roster_of;
+use roster::word::Meaning;
+use seat::alone;
+use seat::class_with;
 use seat::fresh;
+use seating::heed::Seating;
 use serve::serve_until_end;
 use word::Wish;
 use word::asked;
+use word::asked_to_show;
+use word::list_class_words;
 use word::list_words;
 
 // What is written for each frame.
@@ -25,13 +33,13 @@ pub enum Show {
 // error, and nothing is read.
 pub fn sit(show: Show) {
     match asked() {
-        Wish::Seat(kind) => sit_as(show, kind),
-        Wish::Unknown => list_words(),
+        Meaning::Kind(kind) => sit_as(show, alone(kind)),
+        Meaning::Unknown => list_words(),
     }
 }
 
 // What goes wrong with a file is said on standard error, and ends it too.
-fn sit_as(show: Show, kind: Kind) {
+fn sit_as(show: Show, seating: Seating) {
     // one byte more than fits, so that a longer file is seen to be unfit
     let mut memory = [0; 2049];
     let loaded = load(&mut memory);
@@ -46,10 +54,77 @@ fn sit_as(show: Show, kind: Kind) {
     let mut out = [0; 18432];
     serve_until_end(
         show,
-        fresh(kind),
+        fresh(seating),
         &mut memory[..n],
         &mut held,
         &mut room,
         &mut out,
+    );
+}
+
+// The class that the file `row` names serves what arrives until it ends; where a line of it names no module, that is said on standard error,
+// and nothing is served.
+pub fn teach() {
+    match asked_to_show() {
+        Wish::Shown(show) => teach_as(show),
+        Wish::Unknown => list_class_words(),
+    }
+}
+
+fn teach_as(show: Show) {
+    // one byte more than is taken, so that a longer file is seen to be too long
+    let mut text = [0; 4097];
+    let loaded = load_row(&mut text);
+    if !loaded.is_fine {
+        return;
+    }
+    let n = loaded.size;
+    if 4096 < n {
+        say_too_long();
+        return;
+    }
+    let roster = roster_of(&text[..n]);
+    if roster.bad != 0 {
+        say_bad_line(roster.bad);
+        return;
+    }
+    let row = roster.row;
+    teach_row(show, class_with(row, roster.count));
+}
+
+// As `sit_as`, with link memory for sixteen shares.
+fn teach_row(show: Show, seating: Seating) {
+    // one byte more than fits
+    let mut memory = [0; 32769];
+    let loaded = load(&mut memory);
+    if !loaded.is_fine {
+        return;
+    }
+    let n = loaded.size;
+    let mut held = [0; 4096];
+    let mut room = [0; 5897];
+    let mut out = [0; 18432];
+    serve_until_end(
+        show,
+        fresh(seating),
+        &mut memory[..n],
+        &mut held,
+        &mut room,
+        &mut out,
+    );
+}
+
+fn say_too_long() {
+    io::write_all(STDERR_FILENO, b"row: more than 4,096 bytes\n");
+}
+
+fn say_bad_line(number: usize) {
+    let mut digits = [0; 20];
+    let n = io::decimal(number as u64, &mut digits);
+    io::write_all(STDERR_FILENO, b"row, line ");
+    io::write_all(STDERR_FILENO, &digits[..n]);
+    io::write_all(
+        STDERR_FILENO,
+        b": expected a kind (dimmer, outlet) and three or seven bytes, as in dimmer 00 10 3A\n",
     );
 }

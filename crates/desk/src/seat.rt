@@ -1,50 +1,47 @@
-// The module at the desk, by its kind ("The program").
+// Who sits at the desk at first: a module alone, by its kind ("The program"), or a class.
 use crate::answer::Desk;
-use module::state::Identity;
 use module::state::Module;
+use roster::seat::fresh_at;
+use roster::word::Kind;
+use seating::heed::Seating;
 use wire::address::Address;
 ghost use mathlib.Core.Path.{_≡_};
-ghost use Rattle.modem.specs.Program.{identityOf};
-ghost use Rattle.desk.specs.Seat.{startOf};
+ghost use Rattle.desk.specs.Seat.{aloneAs, classWith};
 ghost use Rattle.desk.specs.Desk.{freshDesk};
 
-pub(crate) enum Kind {
-    Dimmer,
-    Outlet,
-}
-
-pub(crate) fn fresh(kind: Kind) -> Desk
-    ensures { λ r. ⌜ r ≡ freshDesk kind ⌝ }
+pub(crate) fn fresh(seating: Seating) -> Desk
+    ensures { λ r. ⌜ r ≡ freshDesk seating ⌝ }
 {
     Desk {
-        module: start(kind),
-        tally: [0; 9],
+        seating: seating,
+        tally: [0; 30],
         is_open: true,
     }
 }
 
-fn start(kind: Kind) -> Module
-    ensures { λ r. ⌜ r ≡ startOf kind ⌝ }
+// At address 00 10 3A, whatever its kind.
+pub(crate) fn alone(kind: Kind) -> Seating
+    ensures { λ r. ⌜ r ≡ aloneAs kind ⌝ }
 {
-    match kind {
-        Kind::Dimmer => Module::fresh_dimmer(identity(0x01, 0x0f, 0xc1)),
-        Kind::Outlet => Module::fresh_outlet(identity(0x02, 0x39, 0xc2)),
+    let a = Address {
+        high: 0x00,
+        middle: 0x10,
+        low: 0x3a,
+    };
+    let m = fresh_at(kind, a);
+    Seating {
+        row: [m; 16],
+        count: 1,
+        is_class: false,
     }
 }
 
-// One takes the other's place, so both have one address.
-fn identity(category: u8, subcategory: u8, firmware: u8) -> Identity
-    ensures { λ r. ⌜ r ≡ identityOf category subcategory firmware ⌝ }
+pub(crate) fn class_with(row: [Module; 16], count: usize) -> Seating
+    ensures { λ r. ⌜ r ≡ classWith row count ⌝ }
 {
-    Identity {
-        address: Address {
-            high: 0x00,
-            middle: 0x10,
-            low: 0x3a,
-        },
-        category: category,
-        subcategory: subcategory,
-        firmware: firmware,
-        revision: 0x00,
+    Seating {
+        row: row,
+        count: count,
+        is_class: true,
     }
 }

@@ -1,4 +1,4 @@
--- One whole frame to one module ("The program").
+-- One whole frame to whoever sits there ("The program").
 use Prim.Native.Nat.{ℕ, _*_}
 use mathlib.Core.Path.{_≡_}
 use mathlib.Core.Bool.{Bool}
@@ -7,10 +7,9 @@ use lib.Dec.{ltb}
 use lib.ListN.{length, drop}
 use Rattle.basis.specs.Choice.{choose}
 use Rattle.basis.specs.Laid.{laid}
-use Rattle.results.specs.Number.{numberOf}
-use Rattle.module.specs.declared.state.Module.{Module}
-use Rattle.device.specs.declared.step.Answer.{Answer}
-use Rattle.device.specs.Step.{Step, stepOf}
+use Rattle.seating.specs.declared.heed.Seating.{Seating}
+use Rattle.seating.specs.declared.heed.Heeded.{Heeded}
+use Rattle.seating.specs.Heed.{Heed, seatedWith, heedOf}
 use Rattle.modem.specs.declared.serve.Served.{Served}
 use Rattle.modem.specs.Frames.{framed}
 
@@ -21,30 +20,34 @@ pub record Turn : Type 0 where
   pub room : List ℕ
   pub out : List ℕ
 
-abbrev pub answerOf : Step → Answer
-answerOf t = record { outcome = t .outcome; length = length (t .reply); read = t .read; next = t .next }
+abbrev pub heededOf : Seating → Heed → Heeded
+heededOf s t = record { number = t .number; length = length (t .reply); read = t .read; place = t .place; next = seatedWith s (t .row) }
 
--- the message behind the two bytes of its frame takes its step, and the reply goes out in frames
-abbrev pub doneOf : List ℕ → Step → Turn
-doneOf out t = record { served = Served.Done (answerOf t) (length (framed (t .reply))); links = t .links; room = t .room; out = laid (framed (t .reply)) out }
+-- the message behind the two bytes of its frame is heeded, and the reply goes out in frames
+abbrev pub doneOf : Seating → List ℕ → Heed → Turn
+doneOf s out t =
+    record {
+      served = record { heeded = heededOf s t; sent = length (framed (t .reply)) };
+      links = t .links;
+      room = t .room;
+      out = laid (framed (t .reply)) out;
+    }
 
 -- more than twice the reply room holds the frames of any reply
 abbrev pub ample : List ℕ → List ℕ → Bool
 ample room out = ltb (2 * length room) (length out)
 
-unfoldable pub turnOf : Module → List ℕ → List ℕ → List ℕ → List ℕ → Turn
-turnOf m l frame room out =
-    choose (ample room out) (doneOf out (stepOf m l (drop 2 frame) room))
-    (record { served = Served.Cramped; links = l; room = room; out = out })
+-- else no frame is served, and the number is none of the paper's
+abbrev pub crampedOf : Seating → Served
+crampedOf s = record { heeded = record { number = 255; length = 0; read = 0; place = 0; next = s }; sent = 0 }
 
--- the paper's number; none of them where no frame was served
-abbrev pub servedNumber : Served → ℕ
-servedNumber (Served.Done answer n) = numberOf (answer .outcome)
-servedNumber Served.Cramped = 255
+unfoldable pub turnOf : Seating → List ℕ → List ℕ → List ℕ → List ℕ → Turn
+turnOf s l frame room out =
+    choose (ample room out) (doneOf s out (heedOf s l (drop 2 frame) room))
+    (record { served = crampedOf s; links = l; room = room; out = out })
 
-pub record ServePromise (m : Module) (l frame room out : List ℕ) (r : Served) (links room' out' : List ℕ) : Type 0 where
-  pub number : servedNumber r ≡ servedNumber (turnOf m l frame room out .served)
-  pub served : r ≡ turnOf m l frame room out .served
-  pub links-after : links ≡ turnOf m l frame room out .links
-  pub room-after : room' ≡ turnOf m l frame room out .room
-  pub out-after : out' ≡ turnOf m l frame room out .out
+pub record ServePromise (s : Seating) (l frame room out : List ℕ) (r : Served) (links room' out' : List ℕ) : Type 0 where
+  pub served : r ≡ turnOf s l frame room out .served
+  pub links-after : links ≡ turnOf s l frame room out .links
+  pub room-after : room' ≡ turnOf s l frame room out .room
+  pub out-after : out' ≡ turnOf s l frame room out .out

@@ -5,6 +5,7 @@ use crate::put::put;
 use crate::put::put_byte;
 use crate::put::put_bytes;
 use crate::put::put_number;
+use basis::min;
 use wire::read::heard_as;
 ghost use Prim.Native.Nat.{_≤_};
 ghost use lib.ListN.{length};
@@ -28,22 +29,40 @@ pub enum LoadShown {
 pub fn put_line(line: &mut [u8], frame: &[u8], shown: Shown, reply: &[u8]) -> usize
     ensures { λ r. ⌜ Counts r (now (line .exit)) ⌝ }
 {
+    let mut at = put_heard(line, frame, shown, reply);
+    let load = shown.load;
+    at = put_load(line, at, load);
+    put(line, at, b"\n")
+}
+
+// All of it before the load; in a class the seats follow.
+pub fn put_heard(line: &mut [u8], frame: &[u8], shown: Shown, reply: &[u8]) -> usize
+    ensures { λ r. ⌜ Counts r (now (line .exit)) ⌝ }
+{
     let load = shown.load;
     let mut at = put_result(line, 0, shown.result);
     at = put_asked(line, at, frame, load);
     at = put(line, at, b" | reply");
     at = put_bytes(line, at, reply);
-    put_state(line, at, shown.read, load)
+    at = put(line, at, b" | read ");
+    put_number(line, at, shown.read)
 }
 
-fn put_state(line: &mut [u8], at: usize, read: u64, load: LoadShown) -> usize
-    requires { ⌜ at ≤ length (now line) ⌝ }
+// A seat of a class, and what its load is at, behind the first `at` bytes.
+pub fn put_seat(line: &mut [u8], at: usize, seat: u64, load: LoadShown) -> usize
     ensures { λ r. ⌜ Counts r (now (line .exit)) ⌝ }
 {
-    let mut to = put(line, at, b" | read ");
-    to = put_number(line, to, read);
-    to = put_load(line, to, load);
-    put(line, to, b"\n")
+    let from = min(at, line.len());
+    let mut to = put(line, from, b" | seat ");
+    to = put_number(line, to, seat);
+    put_load(line, to, load)
+}
+
+pub fn put_end(line: &mut [u8], at: usize) -> usize
+    ensures { λ r. ⌜ Counts r (now (line .exit)) ⌝ }
+{
+    let from = min(at, line.len());
+    put(line, from, b"\n")
 }
 
 fn put_load(line: &mut [u8], at: usize, load: LoadShown) -> usize
@@ -89,7 +108,10 @@ fn put_result(line: &mut [u8], at: usize, result: u8) -> usize
         5 => put(line, at, b"5 no room"),
         6 => put(line, at, b"6 not linked"),
         7 => put(line, at, b"7 not listed"),
-        _ => put(line, at, b"8 no concern of ours"),
+        8 => put(line, at, b"8 no concern of ours"),
+        9 => put(line, at, b"9 two of one address"),
+        10 => put(line, at, b"10 nobody's address"),
+        _ => put(line, at, b"11 unfit row"),
     }
 }
 
@@ -140,13 +162,18 @@ fn put_data(line: &mut [u8], at: usize, data: &[u8]) -> usize
     put_bytes(line, to, data)
 }
 
-// How many frames had each result, a line each.
-pub fn put_tally(line: &mut [u8], tally: [u64; 9]) -> usize
+// How many frames had each result is in the first twelve places of a tally; then, of a class, how many were for each of sixteen seats, and
+// for every seat.
+pub type Tally = [u64; 30];
+
+// So many results, a line each: nine of a module alone, twelve of a class.
+pub fn put_tally(line: &mut [u8], tally: Tally, results: usize) -> usize
     ensures { λ r. ⌜ Counts r (now (line .exit)) ⌝ }
 {
+    let n = min(results, 12);
     let mut at: usize = 0;
     let mut i: usize = 0;
-    while i < 9 {
+    while i < n {
         at = put_result(line, at, i as u8);
         at = put(line, at, b": ");
         at = put_number(line, at, tally[i]);
@@ -154,4 +181,24 @@ pub fn put_tally(line: &mut [u8], tally: [u64; 9]) -> usize
         i += 1;
     }
     at
+}
+
+// Behind the first `at` bytes, so many seats, a line each, and a line for the frames that were for every seat.
+pub fn put_seats(line: &mut [u8], at: usize, tally: Tally, seats: usize) -> usize
+    ensures { λ r. ⌜ Counts r (now (line .exit)) ⌝ }
+{
+    let n = min(seats, 16);
+    let mut to = min(at, line.len());
+    let mut i: usize = 0;
+    while i < n {
+        to = put(line, to, b"seat ");
+        to = put_number(line, to, i as u64 + 1);
+        to = put(line, to, b": ");
+        to = put_number(line, to, tally[12 + i]);
+        to = put(line, to, b"\n");
+        i += 1;
+    }
+    to = put(line, to, b"every seat: ");
+    to = put_number(line, to, tally[28]);
+    put(line, to, b"\n")
 }

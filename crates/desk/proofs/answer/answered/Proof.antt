@@ -4,7 +4,7 @@ use Rattle.desk.proofs.answer.answered.Statement.{statement}
 use Rattle.desk.proofs.answer.answered.Tie as tie
 
 returns : tie.Need-returns
-returns c = rw (c .counted .ensures, c .before .number .ensures) refl
+returns c = rw (c .counted-for .ensures, c .before .counted .ensures) refl
 
 pub answered-spec : {M : Type 1} → statement M
-answered-spec = tie.close (tie.spec (λ c κs. search needs) (λ c κs. search needs) returns)
+answered-spec = tie.close (tie.spec (λ c. search needs) (λ c κs. search needs) (λ c κs. search needs) returns)

@@ -9,7 +9,7 @@ use Rattle.desk.proofs.answer.counted.Tie as tie
 returns-2 : tie.Need-returns-2
 returns-2 c =
     let g = c .before .args in
-    sym (set-out (g .tally) (g .result) _ (omega (arith, c .before .good .0)))
+    sym (set-out (g .tally) (g .i) _ (omega (arith, c .before .good .0)))
 
 pub counted-spec : {M : Type 1} → statement M
 counted-spec =

@@ -1,17 +1,21 @@
 -- What is laid ends in the line at every turn.
 use Prim.Native.Nat.{_≤_, _-_}
-use mathlib.Core.Path.{_≡_}
+use mathlib.Core.Path.{_≡_, refl}
 use native.Mathlib.Omega.{arith}
 use lib.ListN.{length}
+use borrow.Author.Needs.{needs}
 use Rattle.basis.proofs.Counted.{counts}
 use Rattle.text.proofs.line.put_tally.Statement.{statement}
 use Rattle.text.proofs.line.put_tally.Tie as tie
 
 abbrev Inv-loop : tie.InvT-loop
-Inv-loop line₀ tally at₀ i₀ t6 t7 line at i = (length line ≡ length line₀) × (at ≤ length line) × (i ≤ 9)
+Inv-loop line₀ results tally n at₀ i₀ t8 t9 line at i = (length line ≡ length line₀) × (at ≤ length line) × (i ≤ n) × (n ≤ 12)
 
 abbrev μ-loop : tie.MeasureT-loop
-μ-loop line₀ tally at₀ i₀ t6 t7 line at i = 9 - i
+μ-loop line₀ results tally n at₀ i₀ t8 t9 line at i = n - i
+
+loop-holds : tie.Need-loop-holds Inv-loop μ-loop
+loop-holds c = (refl, omega arith, omega arith, omega (arith, c .min .ensures))
 
 returns : tie.Need-returns Inv-loop μ-loop
 returns c = counts (c .before .loop .at) (c .before .loop .line) (omega arith)
@@ -22,7 +26,8 @@ put-tally-spec =
     (tie.spec
     Inv-loop
     μ-loop
-    (λ c. omega arith)
+    (λ c κs. search needs)
+    loop-holds
     (λ c. omega arith)
     (λ c κs. omega arith)
     (λ c. omega arith)

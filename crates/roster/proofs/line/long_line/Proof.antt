@@ -1,0 +1,32 @@
+-- The identity is taken only where its bytes are there.
+use mathlib.Core.Path.{sym, _∙_}
+use native.Mathlib.Omega.{arith}
+use borrow.Author.Tests.{not-true, not-false}
+use borrow.Author.Needs.{needs}
+use Rattle.basis.specs.Choice.{choose}
+use Rattle.roster.proofs.line.long_line.Statement.{statement}
+use Rattle.roster.proofs.line.long_line.Tie as tie
+
+returns : tie.Need-returns
+unfolding choose
+returns c = rw (sym (c .before .before .are-seven .ensures) ∙ not-true _ (c .before .if1 .taken)) (c .no-seat .ensures)
+
+identity-in-requires : tie.Need-identity-in-requires
+identity-in-requires c κs = (omega arith, sym (c .before .are-seven .ensures) ∙ not-false _ (c .if1 .left))
+
+returns-2 : tie.Need-returns-2
+unfolding choose
+returns-2 c =
+    let tested = c .before .before in
+    rw (sym (tested .before .are-seven .ensures) ∙ not-false _ (tested .if1 .left), c .fresh-as .ensures, c .before .identity-in .ensures)
+
+pub long-line-spec : {M : Type 1} → statement M
+long-line-spec =
+    tie.close
+    (tie.spec
+    (λ c κs. search needs)
+    (λ c κs. search needs)
+    returns
+    identity-in-requires
+    (λ c κs. search needs)
+    returns-2)

@@ -1,0 +1,2 @@
+-- Laws of who sits at a desk.
+pub mod Laws

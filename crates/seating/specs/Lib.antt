@@ -1,0 +1,4 @@
+-- Who sits at a desk.
+pub mod Whom
+pub mod Heed
+pub mod Sat

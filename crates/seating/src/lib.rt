@@ -1,0 +1,3 @@
+// Who sits at a desk: one module alone, or a class. What a message comes to there is the step of the one or of the other.
+pub mod heed;
+mod whom; // whom in a class it was for

@@ -1,7 +1,7 @@
--- What lasts is shown where it stands: by device, embed and links.
+-- What lasts is shown where it stands: by device, image and links.
 use Rattle.links.proofs.Written.{length-written, others, itself, linked-after}
 use Rattle.device.proofs.Lasting as device
-use Rattle.embed.proofs.Held as embed
+use Rattle.image.proofs.Whole as image
 use Rattle.promises.specs.Lasting.{SameIdentity, SameKind, WholeModule, WritesLeave}
 
 pub same-identity : SameIdentity
@@ -11,7 +11,7 @@ pub same-kind : SameKind
 same-kind = device.same-kind
 
 pub whole-module : WholeModule
-whole-module = embed.whole-module
+whole-module = image.whole-module
 
 pub writes-leave : WritesLeave
 writes-leave l k bytes few there =

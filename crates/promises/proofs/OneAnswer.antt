@@ -7,10 +7,15 @@ use Rattle.reply.specs.declared.due.Due.{Due}
 use Rattle.reply.specs.Reply.{replyOf}
 use Rattle.reply.specs.Sending.{Sending}
 use Rattle.module.specs.declared.state.Module.{Module}
-use Rattle.device.specs.Step.{StepPromise}
+use Rattle.device.specs.Step.{Step, Comes}
+use Rattle.class.specs.declared.progress.ClassAnswer.{ClassAnswer}
+use Rattle.class.specs.Class.{ClassStep, ClassComes}
+use Rattle.class.specs.Seats.{SeatsCome}
+use Rattle.seating.specs.declared.heed.Seating.{Seating}
+use Rattle.seating.specs.Heed.{Heed, Heeds}
 use Rattle.modem.specs.Serve.{Turn, ServePromise}
-use Rattle.embed.specs.Call.{Returned, CallPromise}
-use Rattle.promises.specs.OneAnswer.{Only, Delivered, Called, EachOnce}
+use Rattle.image.specs.Returned.{Returned, Returns}
+use Rattle.promises.specs.OneAnswer.{Only, Delivered, Called, ClassCalled, SeatsCalled, HeedCalled, EachOnce}
 
 -- a promise that says what its result is equal to
 by-value : {A : Type 0} (z : A) → Only (λ (r : A). r ≡ z)
@@ -19,8 +24,8 @@ by-value z x y p q = p ∙ sym q
 sending : (own : Address) (l : List ℕ) (due : Due) (room : List ℕ) → Only (λ (d : Delivered). Sending (replyOf own l due) room (d .answer) (d .room))
 sending own l due room x y p q = λ i. record { answer = by-value _ _ _ (p .answers) (q .answers) i; room = by-value _ _ _ (p .leaves) (q .leaves) i }
 
-stepping : (m : Module) (l s room : List ℕ) → Only (λ (d : Called). StepPromise m l s room (d .answer) (d .links) (d .room))
-stepping m l s room x y p q =
+stepping : (t : Step) → Only (λ (d : Called). Comes t (d .answer) (d .links) (d .room))
+stepping t x y p q =
     λ i.
     record {
       answer =
@@ -34,8 +39,53 @@ stepping m l s room x y p q =
       room = by-value _ _ _ (p .room-after) (q .room-after) i;
     }
 
-serving : (m : Module) (l frame room out : List ℕ) → Only (λ (t : Turn). ServePromise m l frame room out (t .served) (t .links) (t .room) (t .out))
-serving m l frame room out x y p q =
+-- the class's answer
+answering : (t : ClassStep) {a b : ClassAnswer} {row row' : List Module} {l l' r r' : List ℕ} → ClassComes t a row l r → ClassComes t b row' l' r' → a ≡ b
+answering t p q =
+    λ i.
+    record {
+      outcome = by-value _ _ _ (p .outcome) (q .outcome) i;
+      length = by-value _ _ _ (p .sent) (q .sent) i;
+      read = by-value _ _ _ (p .read) (q .read) i;
+    }
+
+telling-class : (t : ClassStep) → Only (λ (d : ClassCalled). ClassComes t (d .answer) (d .row) (d .links) (d .room))
+telling-class t x y p q =
+    λ i.
+    record {
+      answer = answering t p q i;
+      row = by-value _ _ _ (p .seats) (q .seats) i;
+      links = by-value _ _ _ (p .memory) (q .memory) i;
+      room = by-value _ _ _ (p .room-after) (q .room-after) i;
+    }
+
+telling-seats : (t : ClassStep) → Only (λ (d : SeatsCalled). SeatsCome t (d .answer) (d .links) (d .room))
+telling-seats t x y p q =
+    λ i.
+    record {
+      answer = record { answer = answering t p q i; seats = by-value _ _ _ (p .seats) (q .seats) i };
+      links = by-value _ _ _ (p .memory) (q .memory) i;
+      room = by-value _ _ _ (p .room-after) (q .room-after) i;
+    }
+
+heeding : (t : Heed) (s : Seating) → Only (λ (d : HeedCalled). Heeds t s (d .heeded) (d .links) (d .room))
+heeding t s x y p q =
+    λ i.
+    record {
+      heeded =
+          record {
+            number = by-value _ _ _ (p .number) (q .number) i;
+            length = by-value _ _ _ (p .sent) (q .sent) i;
+            read = by-value _ _ _ (p .read) (q .read) i;
+            place = by-value _ _ _ (p .place) (q .place) i;
+            next = by-value _ _ _ (p .next) (q .next) i;
+          };
+      links = by-value _ _ _ (p .memory) (q .memory) i;
+      room = by-value _ _ _ (p .room-after) (q .room-after) i;
+    }
+
+serving : (s : Seating) (l frame room out : List ℕ) → Only (λ (t : Turn). ServePromise s l frame room out (t .served) (t .links) (t .room) (t .out))
+serving s l frame room out x y p q =
     λ i.
     record {
       served = by-value _ _ _ (p .served) (q .served) i;
@@ -44,8 +94,8 @@ serving m l frame room out x y p q =
       out = by-value _ _ _ (p .out-after) (q .out-after) i;
     }
 
-embedded : (image l s room report : List ℕ) → Only (λ (c : Returned). CallPromise image l s room report (c .number) (c .image) (c .links) (c .room) (c .report))
-embedded image l s room report x y p q =
+embedded : (t : Returned) → Only (λ (c : Returned). Returns t (c .number) (c .image) (c .links) (c .room) (c .report))
+embedded t x y p q =
     λ i.
     record {
       number = by-value _ _ _ (p .number) (q .number) i;
@@ -63,6 +113,7 @@ each-once =
       wire-read = λ _ _ _ _ p q. by-value _ _ _ (p .message) (q .message);
       wire-heard-as = λ _. by-value _;
       wire-is-extended = λ _. by-value _;
+      wire-equals = λ _ _. by-value _;
       links-is-fit = λ _. by-value _;
       links-records = λ _. by-value _;
       links-record-or-blank = λ _ _. by-value _;
@@ -94,9 +145,28 @@ each-once =
       outlet-entry-of = λ _ _ _ _ _. by-value _;
       outlet-group-deed = λ _ _ _. by-value _;
       decide-ruling-by = λ _ _ _. by-value _;
-      device-step = stepping;
+      device-step = λ _ _ _ _. stepping _;
+      device-serve = λ _ _ _ _. stepping _;
+      class-class-step = λ _ _ _ _. telling-class _;
+      class-class-seats = λ _ _ _ _ _. telling-seats _;
+      class-hear = λ _. by-value _;
+      class-noticed = λ _ _ _ _ _. by-value _;
+      class-class-number = λ _. by-value _;
+      seating-heed = λ s _ _ _. heeding _ s;
       modem-seek = λ _. by-value _;
       modem-keep = λ _ _. by-value _;
       modem-serve = serving;
-      embed-dreelish-step = embedded;
+      roster-named = λ _. by-value _;
+      roster-is-same = λ _ _. by-value _;
+      roster-fresh-at = λ _ _. by-value _;
+      roster-fresh-as = λ _ _. by-value _;
+      roster-line-of = λ _. by-value _;
+      roster-roster-of = λ _. by-value _;
+      image-held-in = λ _. by-value _;
+      image-size-of = λ _. by-value _;
+      image-store = λ _ _. by-value _;
+      image-tidy = λ _. by-value _;
+      image-tell = λ _ _ _. by-value _;
+      embed-dreelish-step = λ _ _ _ _ _. embedded _;
+      embed-class-dreelish-class-step = λ _ _ _ _ _ _. embedded _;
     }

@@ -12,7 +12,7 @@ use Rattle.links.specs.Write.{written, afterWrite}
 use Rattle.module.specs.declared.state.Module.{Module}
 use Rattle.module.specs.Module.{kindOf}
 use Rattle.device.specs.Step.{stepOf}
-use Rattle.embed.specs.Image.{moduleOf, imageOf}
+use Rattle.image.specs.Image.{moduleOf, imageOf}
 
 -- no message alters who the module is: address, category, subcategory, firmware and revision stay
 abbrev pub SameIdentity : Type 0

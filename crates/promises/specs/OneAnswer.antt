@@ -2,7 +2,7 @@
 use Prim.Native.Nat.{ℕ, min}
 use mathlib.Core.Path.{_≡_}
 use mathlib.Core.Bool.{Bool}
-use mathlib.Core.List.{List}
+use mathlib.Core.List.{List, [], _∷_}
 use lib.ListN.{drop}
 use Rattle.basis.specs.Laid.{laid, laidIfFits}
 use Rattle.wire.specs.declared.address.Address.{Address}
@@ -11,7 +11,7 @@ use Rattle.wire.specs.declared.command.Command.{Command}
 use Rattle.wire.specs.declared.command.GroupCommand.{GroupCommand}
 use Rattle.wire.specs.declared.kind.MessageKind.{MessageKind}
 use Rattle.wire.specs.declared.kind.Message.{Message}
-use Rattle.wire.specs.Bytes.{isExtended}
+use Rattle.wire.specs.Bytes.{equals, isExtended}
 use Rattle.wire.specs.Kinds.{heardAs}
 use Rattle.wire.specs.Reading.{ReadPromise}
 use Rattle.links.specs.declared.memory.Link.{Link}
@@ -53,11 +53,35 @@ use Rattle.outlet.specs.Groups as outlet-groups
 use Rattle.decide.specs.declared.rule.Ruling.{Ruling}
 use Rattle.decide.specs.Ruling.{rulingBy}
 use Rattle.device.specs.declared.step.Answer.{Answer}
-use Rattle.device.specs.Step.{StepPromise}
+use Rattle.device.specs.Step.{stepBy, Comes, StepPromise}
+use Rattle.class.specs.declared.outcome.ClassOutcome.{ClassOutcome}
+use Rattle.class.specs.declared.progress.ClassAnswer.{ClassAnswer}
+use Rattle.class.specs.declared.progress.Progress.{Progress}
+use Rattle.class.specs.declared.seats.SeatsAnswer.{SeatsAnswer}
+use Rattle.class.specs.Number.{classNumberOf}
+use Rattle.class.specs.Row.{heardIn}
+use Rattle.class.specs.Turns.{noticed}
+use Rattle.class.specs.Class.{classOf, ClassComes}
+use Rattle.class.specs.Seats.{seatsOf, SeatsCome}
+use Rattle.seating.specs.declared.heed.Seating.{Seating}
+use Rattle.seating.specs.declared.heed.Heeded.{Heeded}
+use Rattle.seating.specs.Heed.{heedOf, Heeds}
 use Rattle.modem.specs.declared.arrived.Seen.{Seen}
 use Rattle.modem.specs.Arrived.{seekOf}
 use Rattle.modem.specs.Serve.{Turn, ServePromise}
-use Rattle.embed.specs.Call.{Returned, CallPromise}
+use Rattle.roster.specs.declared.word.Kind.{Kind}
+use Rattle.roster.specs.declared.word.Meaning.{Meaning}
+use Rattle.roster.specs.declared.line.Line.{Line}
+use Rattle.roster.specs.declared.roster.Roster.{Roster}
+use Rattle.roster.specs.Word.{isSame, named}
+use Rattle.roster.specs.Seat.{freshAs, freshAt}
+use Rattle.roster.specs.Line.{lineOf}
+use Rattle.roster.specs.Roster.{rosterOf}
+use Rattle.image.specs.declared.held.Held.{Held}
+use Rattle.image.specs.Image.{sizeOf, heldIn, storedIfOwn, tidied}
+use Rattle.image.specs.Returned.{Returned, Returns}
+use Rattle.embed.specs.Call.{returnedOf}
+use Rattle.embed_class.specs.ClassCall.{classReturnedOf}
 
 -- at most one result meets the promise
 abbrev pub Only : {A : Type 0} → (A → Type 0) → Type 0
@@ -74,6 +98,25 @@ pub record Called : Type 0 where
   pub links : List ℕ
   pub room : List ℕ
 
+-- what a call to a class gives: its answer, the row, link memory and the room afterwards
+pub record ClassCalled : Type 0 where
+  pub answer : ClassAnswer
+  pub row : List Module
+  pub links : List ℕ
+  pub room : List ℕ
+
+-- to a row by value
+pub record SeatsCalled : Type 0 where
+  pub answer : SeatsAnswer
+  pub links : List ℕ
+  pub room : List ℕ
+
+-- to whoever sits there
+pub record HeedCalled : Type 0 where
+  pub heeded : Heeded
+  pub links : List ℕ
+  pub room : List ℕ
+
 -- every public function by its crate and its name, lowest first
 pub record EachOnce : Type 0 where
   pub basis-lay : (room bytes : List ℕ) → Only (λ (after : List ℕ). after ≡ laidIfFits room bytes)
@@ -81,6 +124,7 @@ pub record EachOnce : Type 0 where
   pub wire-read : (s : List ℕ) (own : Address) → Only (ReadPromise s own)
   pub wire-heard-as : (s : List ℕ) → Only (λ (r : MessageKind). r ≡ heardAs s)
   pub wire-is-extended : (s : List ℕ) → Only (λ (r : Bool). r ≡ isExtended s)
+  pub wire-equals : (a b : Address) → Only (λ (r : Bool). r ≡ equals a b)
   pub links-is-fit : (l : List ℕ) → Only (λ (r : Bool). r ≡ isFit l)
   pub links-records : (l : List ℕ) → Only (λ (r : ℕ). r ≡ records l)
   pub links-record-or-blank : (l : List ℕ) (k : ℕ) → Only (λ (r : List ℕ). r ≡ recordOrBlank l k)
@@ -117,9 +161,33 @@ pub record EachOnce : Type 0 where
       → Only (λ (r : GroupDeed). r ≡ outlet-groups.groupDeed sockets command link)
   pub decide-ruling-by : (m : Module) (l : List ℕ) (message : Message) → Only (λ (r : Ruling). r ≡ rulingBy m l message)
   pub device-step : (m : Module) (l s room : List ℕ) → Only (λ (d : Called). StepPromise m l s room (d .answer) (d .links) (d .room))
+  pub device-serve : (m : Module) (l : List ℕ) (heard : Message) (room : List ℕ)
+      → Only (λ (d : Called). Comes (stepBy m l heard room) (d .answer) (d .links) (d .room))
+  pub class-class-step : (row : List Module) (l s room : List ℕ)
+      → Only (λ (d : ClassCalled). ClassComes (classOf row l s room) (d .answer) (d .row) (d .links) (d .room))
+  pub class-class-seats : (seats : List Module) (n : ℕ) (l s room : List ℕ)
+      → Only (λ (d : SeatsCalled). SeatsCome (seatsOf seats n l s room) (d .answer) (d .links) (d .room))
+  pub class-hear : (s : List ℕ) → Only (λ (r : Message). r ≡ heardIn s)
+  pub class-noticed : (names : List Address) (n bytes : ℕ) (s : List ℕ) (heard : Message) → Only (λ (r : Progress). r ≡ noticed names n bytes s (heard .reading))
+  pub class-class-number : (o : ClassOutcome) → Only (λ (r : ℕ). r ≡ classNumberOf o)
+  pub seating-heed : (s : Seating) (l message room : List ℕ)
+      → Only (λ (d : HeedCalled). Heeds (heedOf s l message room) s (d .heeded) (d .links) (d .room))
   pub modem-seek : (s : List ℕ) → Only (λ (r : Seen). r ≡ seekOf s)
   pub modem-keep : (held : List ℕ) (from : ℕ) → Only (λ (after : List ℕ). after ≡ laid (drop from held) held)
-  pub modem-serve : (m : Module) (l frame room out : List ℕ)
-      → Only (λ (t : Turn). ServePromise m l frame room out (t .served) (t .links) (t .room) (t .out))
+  pub modem-serve : (s : Seating) (l frame room out : List ℕ)
+      → Only (λ (t : Turn). ServePromise s l frame room out (t .served) (t .links) (t .room) (t .out))
+  pub roster-named : (word : List ℕ) → Only (λ (r : Meaning). r ≡ named word)
+  pub roster-is-same : (a b : List ℕ) → Only (λ (r : Bool). r ≡ isSame a b)
+  pub roster-fresh-at : (kind : Kind) (a : Address) → Only (λ (r : Module). r ≡ freshAt kind a)
+  pub roster-fresh-as : (kind : Kind) (i : Identity) → Only (λ (r : Module). r ≡ freshAs kind i)
+  pub roster-line-of : (line : List ℕ) → Only (λ (r : Line). r ≡ lineOf line)
+  pub roster-roster-of : (text : List ℕ) → Only (λ (r : Roster). r ≡ rosterOf text)
+  pub image-held-in : (image : List ℕ) → Only (λ (r : Held). r ≡ heldIn image)
+  pub image-size-of : (images : List ℕ) → Only (λ (r : ℕ). r ≡ sizeOf images)
+  pub image-store : (image : List ℕ) (m : Module) → Only (λ (after : List ℕ). after ≡ storedIfOwn image m)
+  pub image-tidy : (image : List ℕ) → Only (λ (after : List ℕ). after ≡ tidied image)
+  pub image-tell : (report : List ℕ) (sent read : ℕ) → Only (λ (after : List ℕ). after ≡ laidIfFits report (sent ∷ read ∷ []))
   pub embed-dreelish-step : (image l s room report : List ℕ)
-      → Only (λ (c : Returned). CallPromise image l s room report (c .number) (c .image) (c .links) (c .room) (c .report))
+      → Only (λ (c : Returned). Returns (returnedOf image l s room report) (c .number) (c .image) (c .links) (c .room) (c .report))
+  pub embed-class-dreelish-class-step : (images : List ℕ) (n : ℕ) (l s room report : List ℕ)
+      → Only (λ (c : Returned). Returns (classReturnedOf images n l s room report) (c .number) (c .image) (c .links) (c .room) (c .report))

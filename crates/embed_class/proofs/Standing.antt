@@ -1,0 +1,157 @@
+-- Where a message to a row of images stands: whose turn it is, and what is said so far.
+use Prim.Native.Nat.{ℕ, _+_, _≤_, _<_}
+use mathlib.Core.Path.{_≡_, refl, sym, _∙_, ap, subst}
+use mathlib.Core.Bool.{Bool, true, false}
+use mathlib.Core.List.{List}
+use native.Mathlib.Omega.{arith}
+use lib.ListN.{length, set, length-set}
+use Rattle.basis.specs.Choice.{choose}
+use Rattle.wire.specs.declared.kind.Message.{Message}
+use Rattle.module.specs.declared.state.Module.{Module}
+use Rattle.device.specs.Step.{Step, stepBy}
+use Rattle.device.proofs.Lasting.{identity-by, kind-by}
+use Rattle.device.proofs.Counted.{most-read}
+use Rattle.class.specs.declared.outcome.ClassOutcome.{ClassOutcome}
+use Rattle.class.specs.declared.progress.ClassAnswer.{ClassAnswer}
+use Rattle.class.specs.declared.progress.Progress.{Progress}
+use Rattle.class.specs.Row.{seatAt, shareAt, withShare}
+use Rattle.class.specs.Class.{ClassStep}
+use Rattle.class.specs.Turns.{Turn, ended, offered, served, serveTurn, noteTurn, Ready}
+use Rattle.class.proofs.Runs.{Runs, Next, next, over}
+use Rattle.image.specs.Image.{heldIn, storedIfOwn}
+use Rattle.embed_class.specs.Row.{imagesOf, imageIn, withImage}
+use Rattle.embed_class.specs.Serve.{seatStepIn, withSeat, SeatComes, RowComes}
+use Rattle.embed_class.proofs.Placed.{image-at, put-at, kept, held-seat}
+
+module _ (target : ClassStep) (heard : Message) (bytes count : ℕ) (t : Progress) where
+  -- the progress t, at another seat and with another answer
+  abbrev pub at : ℕ → ClassAnswer → Progress
+  at seat answer =
+      record {
+        seat = seat;
+        seats = t .seats;
+        share = t .share;
+        serving = t .serving;
+        «all» = t .«all»;
+        scope = t .scope;
+        to = t .to;
+        names = t .names;
+        answer = answer;
+      }
+
+  -- the images are those of a row from which the turns that are left lead to the target
+  pub record Standing (images links room : List ℕ) (seat : ℕ) (answer : ClassAnswer) : Type 0 where
+    pub row : List Module
+    pub many : length row ≡ count
+    pub held : images ≡ imagesOf row
+    pub left : ℕ
+    pub runs : Runs target heard bytes left row (at seat answer) links room
+    pub seats : t .seats ≡ count
+    pub serves : seat < count → t .serving ≡ true
+
+  -- no turn is left
+  pub stands-over : (images links room : List ℕ) (seat : ℕ) (answer : ClassAnswer) → Standing images links room seat answer → count ≤ seat
+      → RowComes target answer images links room
+  stands-over images links room seat answer u past =
+      let c = over target heard bytes (u .left) (u .row) (at seat answer) links room (u .runs) (omega (arith, u .many, past)) in
+      record {
+        comes = record {
+          number = c .number;
+          outcome = c .outcome;
+          sent = c .sent;
+          read = c .read;
+          seats = refl;
+          memory = c .memory;
+          room-after = c .room-after;
+        };
+        images-after = u .held ∙ ap imagesOf (c .seats);
+      }
+
+  module _ (images links room : List ℕ) (seat : ℕ) (answer : ClassAnswer) (u : Standing images links room seat answer) (inside : seat < count) where
+    there : seat < length (u .row)
+    there = omega (arith, inside, u .many)
+
+    onward : Next target heard bytes (u .left) (u .row) (at seat answer) links room
+    onward = next target heard bytes (u .left) (u .row) (at seat answer) links room (u .runs) there
+
+    pub ready : Ready (at seat answer) bytes
+    ready = onward .ready
+
+    abbrev m : Module
+    m = seatAt (u .row) seat
+
+    abbrev y : Step
+    y = stepBy m (shareAt (t .share) seat links) heard room
+
+    -- the image holds the module of the seat
+    same-step : seatStepIn (t .share) seat images links heard room ≡ y
+    same-step =
+        let it = ap (λ (s : List ℕ). heldIn (imageIn seat s) .«module») (u .held) ∙ held-seat (u .row) seat there in
+        λ j. stepBy (it j) (shareAt (t .share) seat links) heard room
+
+    -- and is put back as that of the module afterwards
+    row-after : withImage seat (storedIfOwn (imageIn seat images) (seatStepIn (t .share) seat images links heard room .next)) images ≡ imagesOf (set (u .row) seat (y .next))
+    row-after =
+        let stays = kept m (y .next) (identity-by m (shareAt (t .share) seat links) heard room) (kind-by m (shareAt (t .share) seat links) heard room) in
+        (λ j. withImage seat (storedIfOwn (imageIn seat (u .held j)) (same-step j .next)) (u .held j))
+        ∙ ap (λ (s : List ℕ). withImage seat (storedIfOwn s (y .next)) (imagesOf (u .row))) (image-at (u .row) seat there)
+        ∙ ap (λ (s : List ℕ). withImage seat s (imagesOf (u .row))) stays
+        ∙ put-at (u .row) seat (y .next) there
+
+    -- its turn is to be served
+    turned : Runs target heard bytes (onward .left) (set (u .row) seat (y .next)) (served (at seat answer) (y .outcome) (length (y .reply)) (y .read))
+        (withShare (t .share) seat (y .links) links) (y .room)
+    unfolding choose
+    turned =
+        let turn : Bool → Turn = λ b. choose b (serveTurn m (at seat answer) heard links room) (noteTurn m (at seat answer) heard links room) in
+        subst (λ (b : Bool). Runs target heard bytes (onward .left) (set (u .row) seat (turn b .next)) (turn b .progress) (turn b .links) (turn b .room))
+        (u .serves inside) (onward .runs)
+
+    module _ (own : ClassAnswer) (images' links' room' : List ℕ) (s : SeatComes (t .share) seat images links heard room own images' links' room') where
+      abbrev said : ClassAnswer
+      said = record { outcome = ClassOutcome.Single (y .outcome); length = length (y .reply); read = y .read }
+
+      its-answer : own ≡ said
+      its-answer =
+          let outcome = s .outcome ∙ ap (λ (x : Step). ClassOutcome.Single (x .outcome)) same-step in
+          let sent = s .sent ∙ ap (λ (x : Step). length (x .reply)) same-step in
+          let read = s .read ∙ ap (λ (x : Step). x .read) same-step in
+          λ j. record { outcome = outcome j; length = sent j; read = read j }
+
+      -- it reads no more records than a share has
+      pub few : own .read ≤ 256
+      few = subst (λ (n : ℕ). n ≤ 256) (sym (s .read)) (most-read (heldIn (imageIn seat images) .«module») (shareAt (t .share) seat links) heard room)
+
+      -- wherever the turn leads, that is where the row stands
+      leads : (seat' : ℕ) (answer' : ClassAnswer) → served (at seat answer) (y .outcome) (length (y .reply)) (y .read) ≡ at seat' answer'
+          → Standing images' links' room' seat' answer'
+      leads seat' answer' e =
+          let memory = s .share-after ∙ ap (λ (x : Step). withShare (t .share) seat (x .links) links) same-step in
+          let after = s .room-after ∙ ap (λ (x : Step). x .room) same-step in
+          let stood : List Module = set (u .row) seat (y .next) in
+          let gone = subst (λ (z : Progress). Runs target heard bytes (onward .left) stood z (withShare (t .share) seat (y .links) links) (y .room)) e turned in
+          let kept-links = subst (λ (z : List ℕ). Runs target heard bytes (onward .left) stood (at seat' answer') z (y .room)) (sym memory) gone in
+          record {
+            row = stood;
+            many = length-set (u .row) seat (y .next) ∙ u .many;
+            held = s .image-after ∙ row-after;
+            left = onward .left;
+            runs = subst (λ (z : List ℕ). Runs target heard bytes (onward .left) stood (at seat' answer') links' z) (sym after) kept-links;
+            seats = u .seats;
+            serves = λ h. u .serves inside;
+          }
+
+      abbrev offeredOn : Progress
+      offeredOn = offered (at seat answer) (y .outcome) (y .read)
+
+      pub to-next : t .«all» ≡ true → Standing images' links' room' (seat + 1) (withSeat answer own)
+      unfolding choose
+      to-next a =
+          leads (seat + 1) (withSeat answer own)
+          (ap (λ (b : Bool). choose b offeredOn (ended (at seat answer) said)) a ∙ ap (λ (x : ClassAnswer). at (seat + 1) (withSeat answer x)) (sym its-answer))
+
+      pub to-end : t .«all» ≡ false → Standing images' links' room' count own
+      unfolding choose
+      to-end a =
+          leads count own
+          (ap (λ (b : Bool). choose b offeredOn (ended (at seat answer) said)) a ∙ (λ j. at (u .seats j) (sym its-answer j)))

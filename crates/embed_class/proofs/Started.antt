@@ -1,0 +1,79 @@
+-- Where a message to a row of images stands before the first turn.
+use Prim.Native.Nat.{ℕ, zero, suc, _<_}
+use mathlib.Core.Path.{_≡_, refl, sym, _∙_, ap, subst}
+use mathlib.Core.List.{List, [], _∷_}
+use native.Mathlib.Omega.{arith}
+use lib.ListN.{length, getD, take}
+use lib.Seq.{getD-take}
+use Rattle.wire.specs.declared.address.Address.{Address}
+use Rattle.wire.specs.declared.kind.Message.{Message}
+use Rattle.module.specs.declared.state.Module.{Module}
+use Rattle.class.specs.declared.progress.Progress.{Progress}
+use Rattle.class.specs.Row.{noName, nameAt, heardIn}
+use Rattle.class.specs.Class.{ClassStep, classOf}
+use Rattle.class.specs.Turns.{nameIn, noticed}
+use Rattle.class.proofs.Runs.{Runs}
+use Rattle.class.proofs.Rounds.{notices}
+use Rattle.class.proofs.Noticed.{due}
+use Rattle.embed_class.specs.Row.{rowOf, imagesOf, namesOf}
+use Rattle.embed_class.proofs.Placed.{row-back}
+use Rattle.embed_class.proofs.Standing.{Standing}
+
+pub row-length : (k : ℕ) (s : List ℕ) → length (rowOf k s) ≡ k
+unfolding rowOf
+row-length zero s = refl
+row-length (suc k) s = ap suc (row-length k _)
+
+-- tidied images hold what they held
+pub still-held : (count : ℕ) (before images : List ℕ) → images ≡ imagesOf (rowOf count before) → rowOf count images ≡ rowOf count before
+still-held count before images e =
+    let row : List Module = rowOf count before in
+    ap (rowOf count) e
+    ∙ ap (λ (k : ℕ). rowOf k (imagesOf row)) (sym (row-length count before))
+    ∙ row-back row
+
+named-at : (row : List Module) (j : ℕ) → getD (namesOf row) j noName ≡ nameAt row j
+unfolding namesOf
+named-at [] j = refl
+named-at (m ∷ row) zero = refl
+named-at (m ∷ row) (suc j) = named-at row j
+
+-- addresses taken from the images are those of the seats
+agree : (names : List Address) (count : ℕ) (row : List Module) → length row ≡ count → take count names ≡ namesOf row
+    → (j : ℕ) → j < length row → nameIn names j ≡ nameAt row j
+agree names count row many e j inside =
+    sym (getD-take count names j noName (omega (arith, many, inside)))
+    ∙ ap (λ (z : List Address). getD z j noName) e
+    ∙ named-at row j
+
+module _ (names : List Address) (count : ℕ) (before images l s room : List ℕ) (tidied : images ≡ imagesOf (rowOf count before))
+    (named : take count names ≡ namesOf (rowOf count before)) where
+  abbrev row : List Module
+  row = rowOf count images
+
+  abbrev target : ClassStep
+  target = classOf row l s room
+
+  abbrev At : Message → Progress → Type 0
+  At heard t = Standing target heard (length l) count t images l room (t .seat) (t .answer)
+
+  base : At (heardIn s) (noticed names count (length l) s (heardIn s .reading))
+  base =
+      let same = still-held count before images tidied in
+      let many = row-length count images in
+      let g = notices row l s room names (agree names count row many (named ∙ ap namesOf (sym same))) in
+      let d = due names count (length l) s (heardIn s .reading) in
+      record {
+        row = row;
+        many = many;
+        held = tidied ∙ ap imagesOf (sym same);
+        left = g .left;
+        runs = subst (λ (n : ℕ). Runs target (heardIn s) (length l) (g .left) row (noticed names n (length l) s (heardIn s .reading)) l room) many (g .runs);
+        seats = d .seats;
+        serves = d .serves;
+      }
+
+  pub starts : (heard : Message) (t : Progress) → heard ≡ heardIn s → t ≡ noticed names count (length l) s (heard .reading) → At heard t
+  starts heard t h e =
+      subst (At heard) (sym e)
+      (subst (λ (x : Message). At x (noticed names count (length l) s (x .reading))) (sym h) base)

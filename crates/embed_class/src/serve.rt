@@ -1,0 +1,110 @@
+// A message to the row: whom it is for is decided by addresses alone, and only who is served is read out of its image.
+use crate::row::names_in;
+use crate::row::place_of;
+use crate::row::tidy_row;
+use class::open::hear;
+use class::outcome::ClassOutcome;
+use class::outcome::class_number;
+use class::progress::ClassAnswer;
+use class::settle::noticed;
+use device::step::serve;
+use image::held::held_in;
+use image::held::size_of;
+use image::store::store;
+use results::Outcome;
+use wire::kind::Message;
+ghost use mathlib.Core.Path.{_≡_};
+ghost use mathlib.Core.Bool.{true};
+ghost use Prim.Native.Nat.{_+_, _*_, _≤_};
+ghost use lib.ListN.{length};
+ghost use Rattle.class.specs.Class.{classOf};
+ghost use Rattle.embed_class.specs.Row.{isRow, rowOf};
+ghost use Rattle.embed_class.specs.Serve.{joinedBy, withSeat, SeatComes, RowComes};
+
+pub(crate) fn serve_row(
+    images: &mut [u8],
+    count: usize,
+    links: &mut [u8],
+    message: &[u8],
+    room: &mut [u8],
+) -> ClassAnswer
+    requires { ⌜ isRow count (now images) ≡ true ⌝ }
+    requires { ⌜ count ≤ 16 ⌝ }
+    ensures { λ r. ⌜
+        RowComes (classOf (rowOf count (now (images .entry))) (now (links .entry)) (now (message .entry)) (now (room .entry)))
+        r (now (images .exit)) (now (links .exit)) (now (room .exit))
+        ⌝ }
+{
+    let names = names_in(images, count);
+    tidy_row(images, count);
+    let heard = hear(message);
+    let t = noticed(names, count, links.len(), message, heard);
+    let mut answer = t.answer;
+    let mut seat = t.seat;
+    while seat < count {
+        let own = serve_seat(images, seat, t.share, links, heard, room);
+        if t.all {
+            answer = with_seat(answer, own);
+            seat += 1;
+        } else {
+            answer = own;
+            seat = count;
+        }
+    }
+    answer
+}
+
+// A broadcast is carried out where any seat acted, and the records read are those of all.
+fn with_seat(before: ClassAnswer, own: ClassAnswer) -> ClassAnswer
+    requires { ⌜ (before .read ≤ 4096) × (own .read ≤ 256) ⌝ }
+    ensures { λ r. ⌜ r ≡ withSeat before own ⌝ }
+{
+    let so_far = before.outcome;
+    let outcome = own.outcome;
+    ClassAnswer {
+        outcome: joined(so_far, outcome),
+        length: 0,
+        read: before.read + own.read,
+    }
+}
+
+fn joined(so_far: ClassOutcome, outcome: ClassOutcome) -> ClassOutcome
+    ensures { λ r. ⌜ r ≡ joinedBy «so_far» outcome ⌝ }
+{
+    if class_number(outcome) == 0 {
+        return ClassOutcome::Single(Outcome::Done);
+    }
+    so_far
+}
+
+// One seat, with its own share.
+fn serve_seat(
+    images: &mut [u8],
+    seat: usize,
+    share: usize,
+    links: &mut [u8],
+    heard: Message,
+    room: &mut [u8],
+) -> ClassAnswer
+    requires { ⌜ seat * share + share ≤ length (now links) ⌝ }
+    ensures { λ r. ⌜
+        SeatComes share seat (now (images .entry)) (now (links .entry)) heard (now (room .entry))
+        r (now (images .exit)) (now (links .exit)) (now (room .exit))
+        ⌝ }
+{
+    let at = place_of(images, seat);
+    let end = at + size_of(&images[at..]);
+    let held = held_in(&images[at..end]);
+    let m = held.module;
+    let from = seat * share;
+    let behind = from + share;
+    let a = serve(m, &mut links[from..behind], heard, room);
+    let next = a.next;
+    store(&mut images[at..end], next);
+    let outcome = a.outcome;
+    ClassAnswer {
+        outcome: ClassOutcome::Single(outcome),
+        length: a.length,
+        read: a.read,
+    }
+}

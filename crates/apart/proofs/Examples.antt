@@ -1,0 +1,20 @@
+-- The checker computes the table.
+use mathlib.Core.Path.{refl}
+use Rattle.basis.specs.Choice.{choose}
+use Rattle.basis.specs.First.{firstFrom}
+use Rattle.wire.specs.Commands.{standards, extendeds, groupCommandOf}
+use Rattle.wire.specs.Kinds.{kindOf}
+use Rattle.wire.specs.Reading.{readOf}
+use Rattle.links.specs.Search.{stopOf}
+use Rattle.outlet.specs.Groups.{socketDeed}
+use Rattle.decide.specs.Decide.{directPlan}
+use Rattle.decide.specs.Ruling.{rulingBy}
+use Rattle.class.specs.Class.{heardFrom, classOf}
+use Rattle.promises.specs.Bench.{linked, stranger, zeros, first-record, memory, room}
+use Rattle.promises.specs.Outlets.{group-1, record-of}
+use Rattle.apart.specs.Examples.{dimmer, outlet, lit, top-on, seats, shares, pair, twins, seat, to-seat, of-seat, called, examples, cramped, AllRight}
+
+pub all-right : AllRight
+unfolding choose firstFrom standards extendeds groupCommandOf kindOf readOf stopOf socketDeed directPlan rulingBy heardFrom classOf linked stranger
+    zeros first-record memory room group-1 record-of dimmer outlet lit top-on seats shares pair twins seat to-seat of-seat called examples cramped
+all-right = refl

@@ -1,11 +1,14 @@
-//! Makes and links the proved library; a fresh clone proves it first.
+//! Makes and links the proved libraries; a fresh clone proves them first.
 
 use std::fs;
 use std::path::Path;
 use std::process::Command;
 use std::time::SystemTime;
 
-const MADE: &str = "../target/native/libembed.a";
+const MADE: [&str; 2] = [
+    "../target/native/libembed.a",
+    "../target/native/libembed_class.a",
+];
 const SOURCES: [&str; 2] = ["../crates", "library"];
 
 fn main() {
@@ -16,17 +19,19 @@ fn main() {
         let status = Command::new("./library").status();
         assert!(
             status.is_ok_and(|status| status.success()),
-            "./library failed: the library was not proved or not made"
+            "./library failed: a library was not proved or not made"
         );
     }
     let root = std::env::var("CARGO_MANIFEST_DIR").expect("cargo names the package's folder");
     println!("cargo:rustc-link-search=native={root}/../target/native");
     println!("cargo:rustc-link-lib=static=embed");
+    println!("cargo:rustc-link-lib=static=embed_class");
 }
 
 fn up_to_date() -> bool {
-    let sources = SOURCES.iter().map(|source| newest(Path::new(source)));
-    changed(Path::new(MADE)).is_some_and(|made| sources.max() <= Some(Some(made)))
+    let newest = SOURCES.iter().map(|source| newest(Path::new(source))).max();
+    MADE.iter()
+        .all(|made| changed(Path::new(made)).is_some_and(|made| newest <= Some(Some(made))))
 }
 
 fn changed(path: &Path) -> Option<SystemTime> {

@@ -1,9 +1,10 @@
 //! Examples as the paper gives them, each run by the library and by the second reading.
 
-use crate::library::{self, Image};
+use crate::left::Left;
+use crate::library;
 use crate::paper::lamp::Lamp;
 use crate::paper::sockets::Sockets;
-use crate::paper::{self, Address, Load, Module, ModuleKind, Outcome, BENCH};
+use crate::paper::{Address, Load, Module, ModuleKind, Outcome, BENCH};
 
 pub const LINKED: Address = [0xAA, 0xBB, 0xCC];
 pub const STRANGER: Address = [0x11, 0x22, 0x33];
@@ -17,7 +18,7 @@ pub const LINKS: [u8; 16] = [
 
 /// What a room holds before the call.
 const BLANK: u8 = 0xEE;
-const ENOUGH: usize = 64;
+pub const ENOUGH: usize = 64;
 
 /// A message on its way to a module: all that the paper lets an example start from.
 #[derive(Clone)]
@@ -110,41 +111,41 @@ impl Example {
 
     fn run_library(&self, comes: &Comes) {
         let (mut image, mut links) = (library::image(&self.module), self.links.clone());
-        let mut room = vec![BLANK; self.room];
-        let outcome = library::step(&mut image, &mut links, &self.message, &mut room);
-        self.compare("library", outcome, image, &links, &room, comes);
+        let left = Left::by_library(&mut image, &mut links, &self.message, blank(self.room));
+        self.compare("library", &left, comes);
     }
 
     fn run_paper(&self, comes: &Comes) {
         let (mut module, mut links) = (self.module, self.links.clone());
-        let mut room = vec![BLANK; self.room];
-        let outcome = paper::step(&mut module, &mut links, &self.message, &mut room);
-        let image = library::image(&module);
-        self.compare("second reading", outcome, image, &links, &room, comes);
+        let left = Left::by_paper(&mut module, &mut links, &self.message, blank(self.room));
+        self.compare("second reading", &left, comes);
     }
 
-    fn compare(
-        &self,
-        by: &str,
-        outcome: Outcome,
-        image: Image,
-        links: &[u8],
-        room: &[u8],
-        comes: &Comes,
-    ) {
-        let what = format!("{by}, message {:02X?}", self.message);
-        let expected = Outcome {
-            result: comes.result,
-            length: comes.reply.len(),
-            read: comes.read,
+    fn compare(&self, by: &str, left: &Left, comes: &Comes) {
+        let expected = Left {
+            outcome: Outcome {
+                result: comes.result,
+                length: comes.reply.len(),
+                read: comes.read,
+            },
+            images: library::image(&comes.module),
+            links: comes.links.clone(),
+            room: laid(&comes.reply, self.room),
         };
-        let mut expected_room = vec![BLANK; self.room];
-        expected_room[..comes.reply.len()].copy_from_slice(&comes.reply);
-        assert_eq!(outcome, expected, "{what}");
-        assert_eq!(image, library::image(&comes.module), "{what}");
-        assert_eq!(links, comes.links, "{what}");
-        assert_eq!(room, expected_room, "{what}");
+        left.assert_is(&expected, &format!("{by}, message {:02X?}", self.message));
     }
+}
+
+/// A reply room before the call.
+pub fn blank(length: usize) -> Vec<u8> {
+    vec![BLANK; length]
+}
+
+/// The same with a reply at its start.
+pub fn laid(reply: &[u8], length: usize) -> Vec<u8> {
+    let mut room = blank(length);
+    room[..reply.len()].copy_from_slice(reply);
+    room
 }
 
 /// The load of a dimmer.
@@ -168,6 +169,7 @@ pub fn reply(to: Address, flags: u8, command1: u8, command2: u8) -> Vec<u8> {
     standard(BENCH.address, to, flags, [command1, command2])
 }
 
-fn standard(from: Address, to: Address, flags: u8, commands: [u8; 2]) -> Vec<u8> {
+/// The nine bytes of a standard message.
+pub fn standard(from: Address, to: Address, flags: u8, commands: [u8; 2]) -> Vec<u8> {
     [&from[..], &to, &[flags], &commands].concat()
 }

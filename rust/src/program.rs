@@ -1,4 +1,4 @@
-//! Program `bench`, started in a folder of its own, and what "The program" says that it writes.
+//! Programs `bench` and `classroom`, each started in a folder of its own, and what "The program" says that the first one writes.
 
 use std::fs;
 use std::io::{Read, Write};
@@ -37,7 +37,7 @@ impl Folder {
     pub fn without_links() -> Self {
         static COUNT: AtomicUsize = AtomicUsize::new(0);
         let number = COUNT.fetch_add(1, Ordering::Relaxed);
-        let path = PathBuf::from(format!("{FOLDERS}/bench-{}-{number}", process::id()));
+        let path = PathBuf::from(format!("{FOLDERS}/program-{}-{number}", process::id()));
         fs::create_dir_all(&path).expect("a folder can be made");
         Self(path)
     }
@@ -48,8 +48,18 @@ impl Folder {
         folder
     }
 
+    /// With the row of a class too.
+    pub fn and_row(self, row: impl AsRef<[u8]>) -> Self {
+        fs::write(self.row(), row).expect("row can be made");
+        self
+    }
+
     pub fn links(&self) -> PathBuf {
         self.0.join("links.bin")
+    }
+
+    pub fn row(&self) -> PathBuf {
+        self.0.join("row")
     }
 }
 
@@ -60,27 +70,52 @@ impl Drop for Folder {
     }
 }
 
-/// The command that starts the program in `folder`. The first one proves and links it where it is missing, before any other starts.
+#[derive(Clone, Copy)]
+pub enum Program {
+    Bench,
+    Classroom,
+}
+
+impl Program {
+    /// What `run` calls it.
+    fn name(self) -> &'static str {
+        match self {
+            Self::Bench => "bench",
+            Self::Classroom => "classroom",
+        }
+    }
+
+    /// The command that starts it in `folder`. The first one proves and links it where it is missing, before any other starts.
+    pub fn command(self, folder: &Folder) -> Command {
+        static READY: [OnceLock<()>; 2] = [const { OnceLock::new() }; 2];
+        READY[self as usize].get_or_init(|| {
+            let nobody = Folder::without_links().and_row([]);
+            let status = self
+                .unchecked_command(&nobody)
+                .stdin(Stdio::null())
+                .status();
+            assert!(
+                status.is_ok_and(|status| status.success()),
+                "{} does not run",
+                self.name()
+            );
+        });
+        self.unchecked_command(folder)
+    }
+
+    fn unchecked_command(self, folder: &Folder) -> Command {
+        let mut command = Command::new(RUN);
+        command.arg(self.name()).current_dir(&folder.0);
+        command
+    }
+}
+
+/// The command that starts `bench`.
 pub fn command(folder: &Folder) -> Command {
-    static READY: OnceLock<()> = OnceLock::new();
-    READY.get_or_init(|| {
-        let nothing = Folder::without_links();
-        let status = unchecked_command(&nothing).stdin(Stdio::null()).status();
-        assert!(
-            status.is_ok_and(|status| status.success()),
-            "bench does not run"
-        );
-    });
-    unchecked_command(folder)
+    Program::Bench.command(folder)
 }
 
-fn unchecked_command(folder: &Folder) -> Command {
-    let mut command = Command::new(RUN);
-    command.arg("bench").current_dir(&folder.0);
-    command
-}
-
-/// A running program: input goes to it piece by piece, and its output comes as it is written.
+/// A running program, for one module or for a class: input goes to it piece by piece, and its output comes as it is written.
 pub struct Bench {
     child: Child,
     input: Option<Sender<Vec<u8>>>,
@@ -95,7 +130,7 @@ impl Bench {
 
     pub fn start_command(command: &mut Command) -> Self {
         let piped = command.stdin(Stdio::piped()).stdout(Stdio::piped());
-        let mut child = piped.spawn().expect("bench starts");
+        let mut child = piped.spawn().expect("the program starts");
         let input = feed(child.stdin.take().expect("input is piped"));
         let output = drain(child.stdout.take().expect("output is piped"));
         Self {
@@ -117,7 +152,8 @@ impl Bench {
     pub fn receive(&mut self, length: usize) -> Vec<u8> {
         while self.waiting.len() < length {
             let more = self.output.recv_timeout(PATIENCE);
-            self.waiting.extend(more.expect("bench answers in time"));
+            self.waiting
+                .extend(more.expect("the program answers in time"));
         }
         let later = self.waiting.split_off(length);
         std::mem::replace(&mut self.waiting, later)
@@ -130,7 +166,7 @@ impl Bench {
             self.waiting.extend(more);
         }
         let status = wait(&mut self.child);
-        assert!(status.success(), "bench ended with {status}");
+        assert!(status.success(), "the program ended with {status}");
         std::mem::take(&mut self.waiting)
     }
 }
@@ -154,7 +190,7 @@ pub fn wait(child: &mut Child) -> ExitStatus {
     }
     // The panic is the report; whether the kill comes in time does not matter.
     let _ = child.kill();
-    panic!("bench does not end");
+    panic!("the program does not end");
 }
 
 /// A thread that writes every piece as it comes, until the program reads no more.

@@ -25,7 +25,7 @@ const OUTLET: [&str; 3] = ["19 01", "extended 11", "extended 13"];
 
 pub struct Tally {
     listed: Vec<&'static str>,
-    results: [usize; 9],
+    results: BTreeMap<u8, usize>,
     rows: BTreeMap<&'static str, usize>,
 }
 
@@ -36,26 +36,44 @@ impl Tally {
             ModuleKind::Dimmer => &DIMMER,
             ModuleKind::Outlet => &OUTLET,
         };
+        Self::new(0..=8, [&EVERY, own].concat())
+    }
+
+    /// Of messages to classes, in which both kinds sit. 11 stands in place of 2.
+    pub fn of_classes() -> Self {
+        let results = (0..=11).filter(|&result| result != 2);
+        Self::new(results, [&EVERY[..], &DIMMER, &OUTLET].concat())
+    }
+
+    /// Of frames to program `classroom`. Its reply room is long enough for all, so that nothing comes to 5.
+    pub fn of_classroom() -> Self {
+        let mut tally = Self::of_classes();
+        tally.results.remove(&5);
+        tally
+    }
+
+    fn new(results: impl Iterator<Item = u8>, listed: Vec<&'static str>) -> Self {
         Self {
-            listed: [&EVERY, own].concat(),
-            results: [0; 9],
+            listed,
+            results: results.map(|result| (result, 0)).collect(),
             rows: BTreeMap::new(),
         }
     }
 
     pub fn count(&mut self, message: &[u8], result: u8) {
-        self.results[usize::from(result)] += 1;
+        let count = self.results.get_mut(&result);
+        *count.unwrap_or_else(|| panic!("{result} is no result here")) += 1;
         if result == 0 {
             *self.rows.entry(self.row(message)).or_default() += 1;
         }
     }
 
     pub fn total(&self) -> usize {
-        self.results.iter().sum()
+        self.results.values().sum()
     }
 
     pub fn assert_at_least(&self, each_result: usize, each_row: usize) {
-        for (result, &count) in self.results.iter().enumerate() {
+        for (result, &count) in &self.results {
             assert!(count >= each_result, "result {result} came {count} times");
         }
         for &row in &self.listed {
@@ -78,8 +96,8 @@ impl Tally {
 
 impl fmt::Display for Tally {
     fn fmt(&self, f: &mut fmt::Formatter) -> fmt::Result {
-        for (result, count) in self.results.iter().enumerate() {
-            writeln!(f, "result {result}: {count:>7}")?;
+        for (result, count) in &self.results {
+            writeln!(f, "result {result:>2}: {count:>7}")?;
         }
         for row in &self.listed {
             let count = self.carried_out(row);

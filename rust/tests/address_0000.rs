@@ -103,7 +103,7 @@ fn run_scene(kind: ModuleKind, number: u64, results: &mut [usize; 9]) {
     let mut random = Random::new(SEED, number);
     let scene = Scene::fit(kind, &mut random);
     for _ in 0..MESSAGES {
-        let message = message(&mut random, &scene);
+        let message = message(&mut random, scene.seat());
         let room = vec![random.byte(); room_length(&mut random)];
         if message.len() == 23 && message[7] == 0x2F && message[11..13] == [0x00, 0x00] {
             let by_zero = run(&scene, &fitted(&message, [0x00, 0x00]), &room);

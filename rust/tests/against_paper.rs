@@ -49,7 +49,7 @@ fn run_sequence(kind: ModuleKind, sequence: u64, tally: &mut Tally) -> usize {
     let mut image = library::image(&scene.module);
     let mut links = scene.links.clone();
     for number in 0..count {
-        let message = message(&mut random, &scene);
+        let message = message(&mut random, scene.seat());
         let room = vec![random.byte(); room_length(&mut random)];
         let before = (image.clone(), links.clone());
         let by_library = Left::by_library(&mut image, &mut links, &message, room.clone());

@@ -6,7 +6,16 @@ use std::fs;
 use std::path::{Path, PathBuf};
 
 /// Public functions that leave something open; docs/DECISIONS.md has the cause of each.
-const OPEN: [&str; 3] = ["desk-sit", "text-put-line", "text-put-tally"];
+const OPEN: [&str; 8] = [
+    "desk-sit",
+    "desk-teach",
+    "text-put-line",
+    "text-put-heard",
+    "text-put-seat",
+    "text-put-end",
+    "text-put-tally",
+    "text-put-seats",
+];
 
 /// A public function: its name in the list, and the definitions that its promise cites.
 struct Function {
@@ -79,7 +88,7 @@ fn find_functions(crate_name: &str, text: &str, found: &mut Vec<Function>) {
             let name = &rest[..rest.find('(').expect("a function has parameters")];
             let promised = promise_of(rest);
             found.push(Function {
-                row: format!("{crate_name}-{}", name.replace('_', "-")),
+                row: format!("{crate_name}-{name}").replace('_', "-"),
                 cited: words(promised).intersection(&imported).cloned().collect(),
             });
         }

@@ -92,7 +92,7 @@ fn run_scene(kind: ModuleKind, number: u64, sent: &mut BTreeMap<u8, usize>) {
     let mut random = Random::new(SEED, number);
     let scene = Scene::fit(kind, &mut random);
     for _ in 0..MESSAGES {
-        let mut message = message(&mut random, &scene);
+        let mut message = message(&mut random, scene.seat());
         if let (Some(flags), true) = (message.get_mut(6), random.per_cent(50)) {
             *flags = random.byte();
         }

@@ -1,4 +1,4 @@
-//! What the library lends and takes back: images of both kinds, and what it refuses before it looks at a message.
+//! What the library lends and takes back: images of both kinds, rows of them, and what it refuses before it looks at a message.
 
 use dreelish_tests::library::{self, DIMMER, OUTLET, UNFIT};
 use dreelish_tests::paper::{Module, ModuleKind};
@@ -21,7 +21,9 @@ const FRESH_OUTLET: [u8; 15] = [
 ];
 
 /// What is lent around a message that would be carried out if all of it fitted.
+#[derive(Clone, Debug, PartialEq)]
 struct Lent {
+    /// Of a module, or of a row of them.
     image: Vec<u8>,
     links: Vec<u8>,
     room: Vec<u8>,
@@ -49,13 +51,42 @@ impl Lent {
     }
 
     fn assert_refused(mut self) {
-        let (image, links, report) = (self.image.clone(), self.links.clone(), self.report.clone());
-        let what = format!("image {image:02X?}, report of {}", report.len());
-        assert_eq!(self.call(&PING), UNFIT, "{what}");
-        assert_eq!(self.image, image, "{what}");
-        assert_eq!(self.links, links, "{what}");
-        assert_eq!(self.room, [0xEE; 64], "{what}");
-        assert_eq!(self.report, report, "{what}");
+        let before = self.clone();
+        assert_eq!(self.call(&PING), UNFIT, "{before:02X?}");
+        assert_eq!(self, before);
+    }
+
+    /// A row of images, with a record for each of so many seats.
+    fn row(images: &[u8], seats: usize) -> Self {
+        let mut lent = Self::new(images, 2);
+        lent.links = lent.links.repeat(seats);
+        lent
+    }
+
+    fn call_class(&mut self, count: usize, message: &[u8]) -> u64 {
+        library::class_call(
+            &mut self.image,
+            count,
+            &mut self.links,
+            message,
+            &mut self.room,
+            &mut self.report,
+        )
+    }
+
+    fn assert_class_refused(mut self, count: usize) {
+        let before = self.clone();
+        let number = self.call_class(count, &PING);
+        assert_eq!(number, UNFIT, "{count}, {before:02X?}");
+        assert_eq!(self, before, "{count}");
+    }
+
+    /// Result 11, which is told in the report and nowhere else.
+    fn assert_eleven(mut self, count: usize) {
+        let mut before = self.clone();
+        assert_eq!(self.call_class(count, &PING), 11, "{count}, {before:02X?}");
+        before.report[..2].copy_from_slice(&[0, 0]);
+        assert_eq!(self, before, "{count}");
     }
 }
 
@@ -129,5 +160,121 @@ fn any_byte_but_00_is_a_socket_that_is_on() {
             image[13..].copy_from_slice(&[top.min(1), bottom.min(1)]);
             assert_eq!(lent.image, image);
         }
+    }
+}
+
+/// A dimmer, an outlet and a dimmer at addresses that differ; the ping is for the first.
+fn three() -> Vec<u8> {
+    let mut images = [&FRESH_DIMMER[..], &FRESH_OUTLET, &FRESH_DIMMER].concat();
+    (images[16 + 3], images[31 + 3]) = (0x3B, 0x3C);
+    images
+}
+
+/// Where the row fits it is served, so that nothing but what each test spoils is refused.
+#[test]
+fn a_row_of_three_is_served() {
+    let mut lent = Lent::row(&three(), 3);
+    assert_eq!(lent.call_class(3, &PING), 0);
+    assert_eq!(lent.report, [9, 0]);
+    assert_eq!(
+        lent.room[..9],
+        [0x00, 0x10, 0x3A, 0xAA, 0xBB, 0xCC, 0x2F, 0x0F, 0x00]
+    );
+    assert_eq!(lent.image, three());
+}
+
+#[test]
+fn a_row_of_another_count_is_unfit() {
+    for count in [0, 1, 2, 4, 15, 16, 17, 47, 1 << 32, usize::MAX] {
+        Lent::row(&three(), 3).assert_class_refused(count);
+    }
+    Lent::row(&[], 1).assert_class_refused(1);
+    Lent::row(&FRESH_DIMMER, 1).assert_class_refused(0);
+}
+
+#[test]
+fn a_row_cut_short_or_drawn_out_is_unfit() {
+    let whole = three();
+    for length in (0..100).filter(|&length| length != whole.len()) {
+        let mut images = whole.clone();
+        images.resize(length, 0x77);
+        Lent::row(&images, 3).assert_class_refused(3);
+    }
+    for seat in [0, 16, 31] {
+        let mut images = whole.clone();
+        images.remove(seat + 12);
+        Lent::row(&images, 3).assert_class_refused(3);
+    }
+}
+
+/// Also one that makes the image another byte long, so that all behind it is read elsewhere.
+#[test]
+fn a_row_with_a_kind_that_there_is_not_is_unfit() {
+    for (seat, own) in [(0, DIMMER), (16, OUTLET), (31, DIMMER)] {
+        for kind in (0x00..=0xFF).filter(|&kind| kind != own) {
+            let mut images = three();
+            images[seat] = kind;
+            Lent::row(&images, 3).assert_class_refused(3);
+        }
+    }
+}
+
+#[test]
+fn a_row_with_a_short_report_is_unfit() {
+    for length in 0..2 {
+        for (images, count) in [(three(), 3), (FRESH_DIMMER.repeat(17), 17), (vec![], 0)] {
+            let mut lent = Lent::row(&images, count);
+            lent.report.truncate(length);
+            lent.assert_class_refused(count);
+        }
+    }
+}
+
+#[test]
+fn a_row_writes_its_report_in_the_first_two_places_only() {
+    for length in 2..6 {
+        let mut lent = Lent::row(&three(), 3);
+        lent.report.resize(length, 99);
+        assert_eq!(lent.call_class(3, &PING), 0);
+        assert_eq!(lent.report[..2], [9, 0]);
+        assert!(lent.report[2..].iter().all(|&place| place == 99));
+    }
+}
+
+#[test]
+fn an_empty_row_is_eleven() {
+    Lent::row(&[], 0).assert_eleven(0);
+    Lent::row(&[], 1).assert_eleven(0);
+    let mut nothing = Lent::row(&[], 0);
+    nothing.room.clear();
+    assert_eq!(nothing.call_class(0, &[]), 11);
+    assert_eq!(nothing.report, [0, 0]);
+}
+
+/// Such images are left as they stand, even a socket's byte that is neither 00 nor 01.
+#[test]
+fn seventeen_are_eleven() {
+    let mut outlet = FRESH_OUTLET;
+    outlet[13..].copy_from_slice(&[0x77, 0xFF]);
+    for count in [17, 18, 100] {
+        Lent::row(&FRESH_DIMMER.repeat(count), count).assert_eleven(count);
+        Lent::row(&outlet.repeat(count), count).assert_eleven(count);
+        Lent::row(&outlet.repeat(count), count).assert_class_refused(16);
+    }
+}
+
+/// So it is at every seat, whichever the message is for, and where it is refused.
+#[test]
+fn any_byte_but_00_is_a_socket_of_a_row_that_is_on() {
+    for byte in [0x01, 0x02, 0x77, 0x80, 0xFF] {
+        let mut images = three();
+        images[16 + 13..31].copy_from_slice(&[byte, 0x00]);
+        let mut served = Lent::row(&images, 3);
+        let mut refused = Lent::row(&images, 2);
+        images[16 + 13] = 0x01;
+        assert_eq!(served.call_class(3, &PING), 0);
+        assert_eq!(served.image, images);
+        assert_eq!(refused.call_class(3, &PING), 11);
+        assert_eq!(refused.image, images);
     }
 }

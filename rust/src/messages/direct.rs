@@ -1,6 +1,6 @@
 //! Commands of direct messages, and data with them: mostly listed ones, mostly legal numbers.
 
-use super::scene::Scene;
+use super::seat::Seat;
 use crate::paper::{checksum, links};
 use crate::random::Random;
 
@@ -25,7 +25,7 @@ pub fn standard(random: &mut Random) -> [u8; 2] {
     [command1, command2]
 }
 
-pub fn extended(random: &mut Random, scene: &Scene) -> ([u8; 2], [u8; 14]) {
+pub fn extended(random: &mut Random, seat: Seat) -> ([u8; 2], [u8; 14]) {
     let mut data: [u8; 14] = random.bytes();
     let command1 = random.pick(&[0x11, 0x13, 0x20, 0x2E, 0x2E, 0x2E, 0x2F, 0x2F, 0x2F]);
     let command2 = match command1 {
@@ -36,7 +36,7 @@ pub fn extended(random: &mut Random, scene: &Scene) -> ([u8; 2], [u8; 14]) {
     match command1 {
         0x11 | 0x13 => data[0] = random.pick(&[0x02, 0x02, 0x02, 0x02, 0x01, 0x00, 0x03]),
         0x2E => properties(random, &mut data),
-        0x2F => database(random, scene, &mut data),
+        0x2F => database(random, seat, &mut data),
         _ => {}
     }
     let commands = match random.below(20) {
@@ -61,9 +61,9 @@ fn properties(random: &mut Random, data: &mut [u8; 14]) {
     }
 }
 
-fn database(random: &mut Random, scene: &Scene, data: &mut [u8; 14]) {
+fn database(random: &mut Random, seat: Seat, data: &mut [u8; 14]) {
     data[1] = random.pick(&[0x00, 0x02]);
-    data[2..4].copy_from_slice(&name(random, scene));
+    data[2..4].copy_from_slice(&name(random, seat));
     match data[1] {
         0x00 => data[4] = random.pick(&[0x00, 0x00, 0x01, 0x02, 0x10, 0xFF]),
         _ => data[4] = random.byte_in(0x01, 0x08),
@@ -72,7 +72,7 @@ fn database(random: &mut Random, scene: &Scene, data: &mut [u8; 14]) {
         data[4] = random.byte_in(0x00, 0x0B);
     }
     if random.per_cent(85) {
-        data[5..13].copy_from_slice(&scene.record(random));
+        data[5..13].copy_from_slice(&seat.people.record(random));
     }
     if random.per_cent(5) {
         data[1] = random.byte_in(0x00, 0x04);
@@ -80,8 +80,8 @@ fn database(random: &mut Random, scene: &Scene, data: &mut [u8; 14]) {
 }
 
 /// The name of a record on the wire; one in six is the hubs' 0000, and about as many are a little or wholly wrong.
-fn name(random: &mut Random, scene: &Scene) -> [u8; 2] {
-    let count = scene.records().clamp(1, 256);
+fn name(random: &mut Random, seat: Seat) -> [u8; 2] {
+    let count = seat.records().clamp(1, 256);
     let k = random.below(count);
     let [high, low] = links::name(k);
     match random.below(32) {

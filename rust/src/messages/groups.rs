@@ -1,20 +1,21 @@
 //! Group broadcasts and cleanups.
 
 use super::message::near;
-use super::scene::Scene;
+use super::people;
+use super::seat::Seat;
 use crate::paper::Address;
 use crate::random::Random;
 
 /// A sender and a group; mostly a pair that some record holds.
-pub fn member(random: &mut Random, scene: &Scene) -> (Address, u8) {
-    let [_, group, a0, a1, a2, ..] = scene.held(random);
+pub fn member(random: &mut Random, seat: Seat) -> (Address, u8) {
+    let [_, group, a0, a1, a2, ..] = seat.held(random);
     let group = match random.per_cent(80) {
         true => group,
-        false => scene.group(random),
+        false => people::group(random),
     };
     let from = match random.below(10) {
         0 => random.bytes(),
-        1 => scene.person(random),
+        1 => seat.people.person(random),
         _ => [a0, a1, a2],
     };
     (from, group)

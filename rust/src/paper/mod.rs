@@ -4,8 +4,10 @@
 
 pub mod change;
 pub mod checksum;
+pub mod class;
 pub mod extended;
 pub mod groups;
+pub mod hear;
 pub mod lamp;
 pub mod links;
 pub mod load;
@@ -16,6 +18,7 @@ pub mod sockets;
 pub mod standard;
 pub mod step;
 
+pub use class::class_step;
 pub use module::{Address, Identity, Load, Module, ModuleKind, BENCH};
 pub use step::{step, Outcome};
 

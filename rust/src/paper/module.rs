@@ -86,4 +86,11 @@ impl Module {
     pub const fn bench(kind: ModuleKind) -> Self {
         Self::fresh(kind, kind.bench())
     }
+
+    pub const fn kind(&self) -> ModuleKind {
+        match self.load {
+            Load::Lamp(_) => ModuleKind::Dimmer,
+            Load::Sockets(_) => ModuleKind::Outlet,
+        }
+    }
 }

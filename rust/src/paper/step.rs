@@ -1,6 +1,7 @@
-//! One call: "Result numbers" with their order.
+//! One call to one module: "Result numbers" with their order.
 
 use super::change::Change;
+use super::hear::{hear, Heard};
 use super::links::{self, Record};
 use super::message::{Kind, Message};
 use super::module::{Address, Load, Module};
@@ -18,6 +19,17 @@ pub struct Outcome {
     pub length: usize,
     /// Records read by the search.
     pub read: usize,
+}
+
+impl Outcome {
+    /// No reply, and no search was made.
+    pub fn silence(result: u8) -> Self {
+        Self {
+            result,
+            length: 0,
+            read: 0,
+        }
+    }
 }
 
 /// What a well-formed message comes to if the room is long enough.
@@ -48,20 +60,35 @@ impl<'a> Verdict<'a> {
     }
 }
 
-/// Serves one message. Everything is decided and measured before the first byte is altered.
+/// Serves one message to a module by itself.
 pub fn step(module: &mut Module, links: &mut [u8], message: &[u8], room: &mut [u8]) -> Outcome {
-    let (kind, message) = match hear(module.identity.address, links, message) {
-        Ok(heard) => heard,
-        Err(result) => {
-            return Outcome {
-                result,
-                length: 0,
-                read: 0,
-            }
-        }
-    };
+    match hear_alone(module.identity.address, links, message) {
+        Ok(heard) => serve(module, links, &heard, room),
+        Err(result) => Outcome::silence(result),
+    }
+}
+
+/// Results 2, 1 and 3, in this order.
+fn hear_alone<'a>(own: Address, links: &[u8], bytes: &'a [u8]) -> Result<Heard<'a>, u8> {
+    if !links::fit(links) {
+        return Err(2);
+    }
+    let heard = hear(bytes)?;
+    match heard.receiver() {
+        Some(to) if to != own => Err(3),
+        _ => Ok(heard),
+    }
+}
+
+/// Result 4 and those behind it, for a message that is this module's to hear and fit link memory. Everything is decided and
+/// measured before the first byte is altered.
+pub fn serve(module: &mut Module, links: &mut [u8], heard: &Heard, room: &mut [u8]) -> Outcome {
+    let Heard { kind, message } = heard;
+    if !checksum_passes(message) {
+        return Outcome::silence(4);
+    }
     let (records, _) = links.as_chunks();
-    let verdict = decide(module, records, kind, &message);
+    let verdict = decide(module, records, *kind, message);
     let (length, read) = (verdict.reply.length(), verdict.read);
     if room.len() < length {
         return Outcome {
@@ -70,7 +97,7 @@ pub fn step(module: &mut Module, links: &mut [u8], message: &[u8], room: &mut [u
             read,
         };
     }
-    verdict.reply.lay(module, records, &message, room);
+    verdict.reply.lay(module, records, message, room);
     verdict.change.apply(module, links);
     Outcome {
         result: verdict.result,
@@ -79,25 +106,11 @@ pub fn step(module: &mut Module, links: &mut [u8], message: &[u8], room: &mut [u
     }
 }
 
-/// Results 2, 1, 3 and 4, in this order; a message that gets past them is well-formed.
-fn hear<'a>(own: Address, links: &[u8], bytes: &'a [u8]) -> Result<(Kind, Message<'a>), u8> {
-    if !links::fit(links) {
-        return Err(2);
-    }
-    let message = Message::read(bytes).ok_or(1)?;
-    let kind = message.kind().ok_or(3)?;
-    let ours = match kind {
-        Kind::Direct => message.to == own,
-        Kind::Cleanup => message.data.is_none() && message.to == own,
-        Kind::Broadcast => message.data.is_none(),
-    };
-    if !ours {
-        return Err(3);
-    }
-    match message.data {
-        Some(data) if !checksum::passes(message.command1, message.command2, data) => Err(4),
-        _ => Ok((kind, message)),
-    }
+/// Standard messages have none to pass.
+fn checksum_passes(message: &Message) -> bool {
+    message
+        .data
+        .is_none_or(|data| checksum::passes(message.command1, message.command2, data))
 }
 
 fn decide<'a>(

@@ -52,7 +52,7 @@ fn random_stream(random: &mut Random, scene: &mut Scene, frames: usize) -> Vec<u
         if random.per_cent(10) {
             stream.push(random.pick(&[0x02, 0x50, 0x51]));
         }
-        let message = message(random, scene);
+        let message = message(random, scene.seat());
         if !matches!(message.len(), 9 | 23) {
             continue;
         }

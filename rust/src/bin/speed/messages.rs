@@ -1,20 +1,13 @@
-//! How many messages a second the proved library serves, beside the same paper in Rust, and how many frames program `bench`.
+//! Messages to one module.
 
 use std::hint::black_box;
 use std::time::{Duration, Instant};
 
 use dreelish_tests::example::{Example, LINKED, STRANGER};
-use dreelish_tests::framing::frame;
 use dreelish_tests::library;
-use dreelish_tests::paper::links::{Record, RECORD};
 use dreelish_tests::paper::{self, Module, ModuleKind, LONGEST_REPLY};
-use dreelish_tests::program::{expected, Bench, Folder};
-use dreelish_tests::random::Random;
 
-const REPEATS: usize = 15;
-/// How long one repeat should take, so that the clock's grain does not matter.
-const REPEAT: Duration = Duration::from_millis(20);
-const FRAMES: usize = 200_000;
+use crate::{full_links, measure, REPEATS};
 
 struct Case {
     name: &'static str,
@@ -23,18 +16,16 @@ struct Case {
     message: Vec<u8>,
 }
 
-fn main() {
-    print_messages();
-    print_frames();
-}
-
-fn print_messages() {
+pub fn print() {
     println!("Messages a second, one processor, best of {REPEATS} repeats each; library and Rust take turns.");
     println!("The library keeps the module as the bytes of its image, Rust as a struct.\n");
     println!("message                   records      library         Rust  library/Rust");
     for records in [1, 16, 256] {
         for case in cases(records) {
-            let (library, rust) = measure(&case);
+            let (library, rust) = measure(
+                |count| time_library(&case, count),
+                |count| time_rust(&case, count),
+            );
             println!(
                 "{:<25} {records:>7} {library:>12.0} {rust:>12.0} {:>13.2}",
                 case.name,
@@ -76,34 +67,6 @@ fn cases(records: usize) -> [Case; 6] {
     ]
 }
 
-fn full_links(records: usize) -> Vec<u8> {
-    let mut random = Random::new(0, 0);
-    let mut links = Vec::with_capacity(records * RECORD);
-    for _ in 1..records {
-        let [group, a0, a1, d1] = random.bytes();
-        let other: Record = [0xA2, group, a0, a1, 0x00, d1, 0x1C, 0x01];
-        links.extend(other);
-    }
-    let [s0, s1, s2] = LINKED;
-    links.extend([0xA2, 0x01, s0, s1, s2, 0x80, 0x1C, 0x01]);
-    links
-}
-
-/// Messages a second of library and Rust.
-fn measure(case: &Case) -> (f64, f64) {
-    let mut count = 1;
-    while time_rust(case, count) < REPEAT {
-        count *= 2;
-    }
-    let mut best = [Duration::MAX; 2];
-    for _ in 0..REPEATS {
-        best[0] = best[0].min(time_library(case, count));
-        best[1] = best[1].min(time_rust(case, count));
-    }
-    let [library, rust] = best.map(|time| count as f64 / time.as_secs_f64());
-    (library, rust)
-}
-
 fn time_library(case: &Case, count: usize) -> Duration {
     let mut image = library::image(&Module::bench(case.kind));
     let mut links = case.links.clone();
@@ -134,39 +97,4 @@ fn time_rust(case: &Case, count: usize) -> Duration {
         ));
     }
     start.elapsed()
-}
-
-fn print_frames() {
-    let links = full_links(16);
-    let pair = [
-        frame(&Example::direct(LINKED, 0x0F, 0x00).message),
-        frame(&Example::direct(LINKED, 0x11, 0x80).message),
-    ];
-    let stream = pair.concat().repeat(FRAMES / 2);
-    let start = run_bench(&links, &[]);
-    let whole = run_bench(&links, &stream);
-    println!(
-        "\nProgram bench, {FRAMES} frames through a pipe, ping and 11 80 in turn, 16 records: {:.0} frames a second.",
-        FRAMES as f64 / whole.as_secs_f64()
-    );
-    println!(
-        "Its start, which is counted in, takes {:.2} s.",
-        start.as_secs_f64()
-    );
-    if !cfg!(target_arch = "x86_64") {
-        println!("The program is for x86-64, so that on this processor an emulator runs it.");
-    }
-}
-
-/// How long a whole run takes. What it wrote must be right.
-fn run_bench(links: &[u8], stream: &[u8]) -> Duration {
-    let folder = Folder::with_links(links);
-    let expected = expected(ModuleKind::Dimmer, links, stream);
-    let start = Instant::now();
-    let mut bench = Bench::start(&folder);
-    bench.send(stream);
-    let written = bench.finish();
-    let time = start.elapsed();
-    assert!(written == expected, "bench answers wrongly");
-    time
 }

@@ -9,9 +9,11 @@ mod people;
 mod room;
 mod scene;
 mod seat;
+mod stream;
 
 pub use class::Class;
-pub use message::{garbage, message};
+pub use message::message;
 pub use room::room_length;
 pub use scene::Scene;
 pub use seat::Seat;
+pub use stream::{pieces, stream, that_fits};

@@ -1,7 +1,6 @@
 //! Long random streams, held against the second reading of the paper.
 
-use dreelish_tests::framing::frame;
-use dreelish_tests::messages::{garbage, message, Scene};
+use dreelish_tests::messages::{message, pieces, stream, that_fits, Scene};
 use dreelish_tests::paper::{self, ModuleKind, LONGEST_REPLY};
 use dreelish_tests::program::{command, expected, Bench, Folder};
 use dreelish_tests::random::Random;
@@ -41,36 +40,12 @@ pub fn compare(kind: ModuleKind, words: &[&str]) {
     }
 }
 
-/// Frames of all kinds of messages with garbage between some of them; `scene` goes along so that the messages suit.
+/// Frames of all kinds of messages; `scene` goes along so that the messages suit.
 fn random_stream(random: &mut Random, scene: &mut Scene, frames: usize) -> Vec<u8> {
-    let mut stream = Vec::new();
-    let mut count = 0;
-    while count < frames {
-        if random.per_cent(10) {
-            stream.extend(garbage(random, 6));
-        }
-        if random.per_cent(10) {
-            stream.push(random.pick(&[0x02, 0x50, 0x51]));
-        }
-        let message = message(random, scene.seat());
-        if !matches!(message.len(), 9 | 23) {
-            continue;
-        }
+    stream(random, frames, |random| {
+        let message = that_fits(random, |random| message(random, scene.seat()));
         let mut room = [0; LONGEST_REPLY];
         paper::step(&mut scene.module, &mut scene.links, &message, &mut room);
-        stream.extend(frame(&message));
-        count += 1;
-    }
-    stream
-}
-
-fn pieces<'a>(random: &mut Random, mut stream: &'a [u8]) -> Vec<&'a [u8]> {
-    let mut pieces = Vec::new();
-    while !stream.is_empty() {
-        let longest = random.pick(&[1, 30, 1000]);
-        let (piece, rest) = stream.split_at(stream.len().min(1 + random.below(longest)));
-        pieces.push(piece);
-        stream = rest;
-    }
-    pieces
+        message
+    })
 }

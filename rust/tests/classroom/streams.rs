@@ -2,8 +2,8 @@
 
 use std::collections::BTreeSet;
 
-use dreelish_tests::framing::{self, frame};
-use dreelish_tests::messages::{garbage, message, Class};
+use dreelish_tests::framing;
+use dreelish_tests::messages::{message, pieces, stream, that_fits, Class};
 use dreelish_tests::paper::{self, Identity, Module, ModuleKind, LONGEST_REPLY};
 use dreelish_tests::random::Random;
 use dreelish_tests::tally::Tally;
@@ -151,39 +151,15 @@ fn is_the_benchs(module: &Module) -> bool {
     module.identity == bench
 }
 
-/// Frames of all kinds of messages with garbage between some of them; `class` goes along so that the messages suit.
+/// Frames of all kinds of messages; `class` goes along so that the messages suit.
 pub fn random_stream(random: &mut Random, mut class: Class, frames: usize) -> Vec<u8> {
-    let mut stream = Vec::new();
-    let mut count = 0;
-    while count < frames {
-        if random.per_cent(10) {
-            stream.extend(garbage(random, 6));
-        }
-        if random.per_cent(10) {
-            stream.push(random.pick(&[0x02, 0x50, 0x51]));
-        }
-        let seat = class.any_seat(random);
-        let message = message(random, seat);
-        if !matches!(message.len(), 9 | 23) {
-            continue;
-        }
+    stream(random, frames, |random| {
+        let message = that_fits(random, |random| {
+            let seat = class.any_seat(random);
+            message(random, seat)
+        });
         let mut room = [0; LONGEST_REPLY];
         paper::class_step(&mut class.row, &mut class.links, &message, &mut room);
-        stream.extend(frame(&message));
-        count += 1;
-    }
-    stream
-}
-
-/// The stream in pieces, in some runs of one byte each and in some hardly cut at all.
-fn pieces<'a>(random: &mut Random, mut stream: &'a [u8]) -> Vec<&'a [u8]> {
-    let longest = random.pick(&[1, 10, 40, 1000]);
-    let mut pieces = Vec::new();
-    while !stream.is_empty() {
-        let length = 1 + random.below(longest);
-        let (piece, rest) = stream.split_at(length.min(stream.len()));
-        pieces.push(piece);
-        stream = rest;
-    }
-    pieces
+        message
+    })
 }

@@ -51,6 +51,7 @@ pub record HeedAlike (s : Sat) (t u : Heed) : Type 0 where
 
 module _ (s : Seating) (l message : List ℕ) where
   pub numbered : (room : List ℕ) → heedOf s l message room .number ≤ 11
+  unfolding heedOf
   numbered room =
       either (λ (t : Heed). t .number ≤ 11) _ {x = classHeed s l message room} {y = aloneOf s l message room}
       (of-class (seatsOf (s .row) (s .count) l message room .outcome))
@@ -71,6 +72,7 @@ module _ (s : Seating) (l message : List ℕ) where
   alone-replies room = let own = replied (firstIn (s .row)) l message room in record { fits = own .fits; start = own .start }
 
   pub heed-replied : (room : List ℕ) → HeedReplied room (heedOf s l message room)
+  unfolding heedOf
   heed-replied room = either (HeedReplied room) _ (class-replies room) (alone-replies room)
 
   -- a room matters by its length alone
@@ -104,6 +106,7 @@ module _ (s : Seating) (l message : List ℕ) where
     alone-same = record { same = ap fromSaid (room-alike (record { device = firstIn (s .row); links = l }) message room other e) }
 
     pub heed-alike : toldBy sat (heedOf s l message room) ≡ toldBy sat (heedOf s l message other)
+    unfolding heedOf
     heed-alike = beside (HeedAlike sat) _ class-same alone-same .same
 
 -- calls in two parts

@@ -48,7 +48,7 @@ byClass s message t =
 abbrev pub classHeed : Seating → List ℕ → List ℕ → List ℕ → Heed
 classHeed s l message room = byClass s message (seatsOf (s .row) (s .count) l message room)
 
-abbrev pub heedOf : Seating → List ℕ → List ℕ → List ℕ → Heed
+unfoldable pub heedOf : Seating → List ℕ → List ℕ → List ℕ → Heed
 heedOf s l message room = choose (s .«is_class») (classHeed s l message room) (aloneOf s l message room)
 
 -- the same seats, with other modules in them

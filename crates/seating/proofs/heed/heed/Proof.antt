@@ -1,11 +1,12 @@
 use borrow.Author.Needs.{needs}
 use Rattle.basis.proofs.Choice.{by}
 use Rattle.basis.proofs.Tests.{clash}
-use Rattle.seating.specs.Heed.{Heed, Heeds}
+use Rattle.seating.specs.Heed.{Heed, heedOf, Heeds}
 use Rattle.seating.proofs.heed.heed.Statement.{statement}
 use Rattle.seating.proofs.heed.heed.Tie as tie
 
 returns : tie.Need-returns
+unfolding heedOf
 returns c =
     let told = c .before .before .before .before in
     let s = c .before .before .before .before .before .before .before .before .before .before .before .args .s in
@@ -14,6 +15,7 @@ returns c =
     (λ e. clash (told .before .before .before .if1 .taken) e)
 
 returns-2 : tie.Need-returns-2
+unfolding heedOf
 returns-2 c =
     let told = c .before .before .before .before in
     let s = c .before .before .before .before .before .before .before .before .before .before .before .args .s in

@@ -15,7 +15,7 @@ use Rattle.seating.specs.declared.heed.Seating.{Seating}
 use Rattle.seating.specs.Heed.{Heed, Heeds}
 use Rattle.modem.specs.Serve.{Turn, ServePromise}
 use Rattle.image.specs.Returned.{Returned, Returns}
-use Rattle.promises.specs.OneAnswer.{Only, Delivered, Called, ClassCalled, SeatsCalled, HeedCalled, EachOnce}
+use Rattle.around.specs.OneAnswer.{Only, Delivered, Called, ClassCalled, SeatsCalled, HeedCalled, EachOnce}
 
 -- a promise that says what its result is equal to
 by-value : {A : Type 0} (z : A) → Only (λ (r : A). r ≡ z)
@@ -153,11 +153,14 @@ each-once =
       class-noticed = λ _ _ _ _ _. by-value _;
       class-class-number = λ _. by-value _;
       seating-heed = λ s _ _ _. heeding _ s;
+      seating-alone = λ _. by-value _;
+      seating-class-with = λ _ _. by-value _;
       modem-seek = λ _. by-value _;
       modem-keep = λ _ _. by-value _;
       modem-serve = serving;
       roster-named = λ _. by-value _;
       roster-is-same = λ _ _. by-value _;
+      roster-bench-of = λ _. by-value _;
       roster-fresh-at = λ _ _. by-value _;
       roster-fresh-as = λ _ _. by-value _;
       roster-line-of = λ _. by-value _;

@@ -33,8 +33,8 @@ use Rattle.modem.specs.Stream.{cutBy, cut, callIn, callsIn, writtenFor}
 use Rattle.modem.proofs.Placed.{found}
 use Rattle.modem.proofs.Cut.{marked, waiting, whole-first, frame-by-frame, short, alone, in-pieces}
 use Rattle.modem.proofs.Framed.{each-framed}
-use Rattle.promises.specs.Program.{InPieces, PingAlways, FramesAreMessages, Messages, RepliesAreMessages}
-use Rattle.promises.specs.Program.{SkippedAlone, Frame, standard, extended, Holds, end, next, EndDrops}
+use Rattle.around.specs.Program.{InPieces, PingAlways, FramesAreMessages, Messages, RepliesAreMessages}
+use Rattle.around.specs.Program.{SkippedAlone, Frame, standard, extended, Holds, end, next, EndDrops}
 
 pub in-any-pieces : InPieces
 in-any-pieces st room p q =

@@ -66,6 +66,7 @@ use Rattle.class.specs.Seats.{seatsOf, SeatsCome}
 use Rattle.seating.specs.declared.heed.Seating.{Seating}
 use Rattle.seating.specs.declared.heed.Heeded.{Heeded}
 use Rattle.seating.specs.Heed.{heedOf, Heeds}
+use Rattle.seating.specs.Start.{aloneWith, classWith}
 use Rattle.modem.specs.declared.arrived.Seen.{Seen}
 use Rattle.modem.specs.Arrived.{seekOf}
 use Rattle.modem.specs.Serve.{Turn, ServePromise}
@@ -74,7 +75,7 @@ use Rattle.roster.specs.declared.word.Meaning.{Meaning}
 use Rattle.roster.specs.declared.line.Line.{Line}
 use Rattle.roster.specs.declared.roster.Roster.{Roster}
 use Rattle.roster.specs.Word.{isSame, named}
-use Rattle.roster.specs.Seat.{freshAs, freshAt}
+use Rattle.roster.specs.Seat.{freshAs, freshAt, benchOf}
 use Rattle.roster.specs.Line.{lineOf}
 use Rattle.roster.specs.Roster.{rosterOf}
 use Rattle.image.specs.declared.held.Held.{Held}
@@ -172,12 +173,15 @@ pub record EachOnce : Type 0 where
   pub class-class-number : (o : ClassOutcome) → Only (λ (r : ℕ). r ≡ classNumberOf o)
   pub seating-heed : (s : Seating) (l message room : List ℕ)
       → Only (λ (d : HeedCalled). Heeds (heedOf s l message room) s (d .heeded) (d .links) (d .room))
+  pub seating-alone : (m : Module) → Only (λ (r : Seating). r ≡ aloneWith m)
+  pub seating-class-with : (row : List Module) (count : ℕ) → Only (λ (r : Seating). r ≡ classWith row count)
   pub modem-seek : (s : List ℕ) → Only (λ (r : Seen). r ≡ seekOf s)
   pub modem-keep : (held : List ℕ) (from : ℕ) → Only (λ (after : List ℕ). after ≡ laid (drop from held) held)
   pub modem-serve : (s : Seating) (l frame room out : List ℕ)
       → Only (λ (t : Turn). ServePromise s l frame room out (t .served) (t .links) (t .room) (t .out))
   pub roster-named : (word : List ℕ) → Only (λ (r : Meaning). r ≡ named word)
   pub roster-is-same : (a b : List ℕ) → Only (λ (r : Bool). r ≡ isSame a b)
+  pub roster-bench-of : (kind : Kind) → Only (λ (r : Module). r ≡ benchOf kind)
   pub roster-fresh-at : (kind : Kind) (a : Address) → Only (λ (r : Module). r ≡ freshAt kind a)
   pub roster-fresh-as : (kind : Kind) (i : Identity) → Only (λ (r : Module). r ≡ freshAs kind i)
   pub roster-line-of : (line : List ℕ) → Only (λ (r : Line). r ≡ lineOf line)

@@ -11,7 +11,8 @@ use Rattle.device.specs.Step.{stepOf}
 use Rattle.device.specs.Run.{State}
 use Rattle.modem.specs.Arrived.{stopsAt}
 use Rattle.modem.specs.Frames.{frameOf, framed}
-use Rattle.modem.specs.Program.{start}
+use Rattle.roster.specs.declared.word.Kind.{Kind}
+use Rattle.roster.specs.Seat.{benchOf}
 use Rattle.modem.specs.Stream.{cut, streamOf, goOn}
 
 -- frames may arrive in pieces of any size: what is written, the state and what is kept do not hang on where they are cut
@@ -22,11 +23,11 @@ InPieces = (st : State) (room p q : List ℕ) → streamOf st room (p ++ q) ≡ 
 abbrev pub PingAlways : Type 0
 PingAlways =
     (l room : List ℕ) → isFit l ≡ true → 9 ≤ length room →
-    streamOf (record { device = start; links = l }) room
+    streamOf (record { device = benchOf Kind.Dimmer; links = l }) room
     (0x02 ∷ 0x50 ∷ 0xaa ∷ 0xbb ∷ 0xcc ∷ 0x00 ∷ 0x10 ∷ 0x3a ∷ 0x0f ∷ 0x0f ∷ 0x00 ∷ []) ≡
     record {
       written = (0x02 ∷ 0x50 ∷ 0x00 ∷ 0x10 ∷ 0x3a ∷ 0xaa ∷ 0xbb ∷ 0xcc ∷ 0x2f ∷ 0x0f ∷ 0x00 ∷ []) ∷ [];
-      state = record { device = start; links = l };
+      state = record { device = benchOf Kind.Dimmer; links = l };
       kept = [];
     }
 

@@ -1,19 +1,19 @@
 // What the programs share: link memory from links.bin, frames from standard input, and who sits there ("The program").
 mod answer;
 mod input;
-mod seat;
 mod serve;
 mod word;
 
+use answer::fresh;
 use input::load;
 use input::load_row;
 use libc::STDERR_FILENO;
 use roster::roster::roster_of;
+use roster::seat::bench_of;
 use roster::word::Meaning;
-use seat::alone;
-use seat::class_with;
-use seat::fresh;
 use seating::heed::Seating;
+use seating::start::alone;
+use seating::start::class_with;
 use serve::serve_until_end;
 use word::Wish;
 use word::asked;
@@ -33,7 +33,7 @@ pub enum Show {
 // error, and nothing is read.
 pub fn sit(show: Show) {
     match asked() {
-        Meaning::Kind(kind) => sit_as(show, alone(kind)),
+        Meaning::Kind(kind) => sit_as(show, alone(bench_of(kind))),
         Meaning::Unknown => list_words(),
     }
 }

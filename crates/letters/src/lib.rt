@@ -1,22 +1,20 @@
-// Text laid behind text in a line; what no longer fits is left out.
-ghost use Prim.Native.Nat.{_≤_};
-ghost use lib.ListN.{length};
+// Text laid behind the first `at` bytes of a line; how many bytes are laid then. What no longer fits is left out.
+use basis::min;
 ghost use Rattle.io.specs.Counts.{Counts};
 
-pub(crate) fn put(line: &mut [u8], at: usize, text: &[u8]) -> usize
-    requires { ⌜ at ≤ length (now line) ⌝ }
+pub fn put(line: &mut [u8], at: usize, text: &[u8]) -> usize
     ensures { λ r. ⌜ Counts r (now (line .exit)) ⌝ }
 {
-    if line.len() - at < text.len() {
-        return at;
+    let from = min(at, line.len());
+    if line.len() - from < text.len() {
+        return from;
     }
-    basis::lay(&mut line[at..], text);
-    at + text.len()
+    basis::lay(&mut line[from..], text);
+    from + text.len()
 }
 
 // A space and the byte's two digits.
-pub(crate) fn put_byte(line: &mut [u8], at: usize, byte: u8) -> usize
-    requires { ⌜ at ≤ length (now line) ⌝ }
+pub fn put_byte(line: &mut [u8], at: usize, byte: u8) -> usize
     ensures { λ r. ⌜ Counts r (now (line .exit)) ⌝ }
 {
     let text = [b' ', digit(byte / 16), digit(byte % 16)];
@@ -31,11 +29,10 @@ fn digit(x: u8) -> u8 {
     }
 }
 
-pub(crate) fn put_bytes(line: &mut [u8], at: usize, bytes: &[u8]) -> usize
-    requires { ⌜ at ≤ length (now line) ⌝ }
+pub fn put_bytes(line: &mut [u8], at: usize, bytes: &[u8]) -> usize
     ensures { λ r. ⌜ Counts r (now (line .exit)) ⌝ }
 {
-    let mut to = at;
+    let mut to = min(at, line.len());
     let mut i: usize = 0;
     while i < bytes.len() {
         to = put_byte(line, to, bytes[i]);
@@ -44,8 +41,7 @@ pub(crate) fn put_bytes(line: &mut [u8], at: usize, bytes: &[u8]) -> usize
     to
 }
 
-pub(crate) fn put_number(line: &mut [u8], at: usize, n: u64) -> usize
-    requires { ⌜ at ≤ length (now line) ⌝ }
+pub fn put_number(line: &mut [u8], at: usize, n: u64) -> usize
     ensures { λ r. ⌜ Counts r (now (line .exit)) ⌝ }
 {
     let mut text = [0; 20];

@@ -3,4 +3,3 @@ pub mod Arrived
 pub mod Frames
 pub mod Serve
 pub mod Stream
-pub mod Program

@@ -1,7 +1,6 @@
 // What a message asks for, by the kinds and commands of `wire`. Every variant is listed and no arm takes the rest, so that a
 // command that `wire` gains is named here too, or nothing compiles.
-use crate::line::LoadShown;
-use crate::put::put;
+use letters::put;
 use wire::command::Command;
 use wire::command::Extended;
 use wire::command::GroupCommand;
@@ -10,12 +9,18 @@ use wire::command::ModuleCommand;
 use wire::command::OpenCommand;
 use wire::command::Standard;
 use wire::kind::MessageKind;
-ghost use Prim.Native.Nat.{_≤_};
-ghost use lib.ListN.{length};
 ghost use Rattle.io.specs.Counts.{Counts};
 
-pub(crate) fn put_kind(line: &mut [u8], at: usize, kind: MessageKind) -> usize
-    requires { ⌜ at ≤ length (now line) ⌝ }
+// What a load is at, a case for each kind of module.
+pub enum LoadShown {
+    Level(u8),
+    // The top one and the bottom one, on or off.
+    Sockets(bool, bool),
+    // Of no single module: a command has its name where any kind lists it.
+    Any,
+}
+
+pub fn put_kind(line: &mut [u8], at: usize, kind: MessageKind) -> usize
     ensures { λ r. ⌜ Counts r (now (line .exit)) ⌝ }
 {
     match kind {
@@ -27,8 +32,7 @@ pub(crate) fn put_kind(line: &mut [u8], at: usize, kind: MessageKind) -> usize
 }
 
 // What the lists for a module with such a load call it. A foreign message is in none of them: its bytes alone are shown.
-pub(crate) fn put_name(line: &mut [u8], at: usize, kind: MessageKind, load: LoadShown) -> usize
-    requires { ⌜ at ≤ length (now line) ⌝ }
+pub fn put_name(line: &mut [u8], at: usize, kind: MessageKind, load: LoadShown) -> usize
     ensures { λ r. ⌜ Counts r (now (line .exit)) ⌝ }
 {
     match kind {
@@ -40,7 +44,6 @@ pub(crate) fn put_name(line: &mut [u8], at: usize, kind: MessageKind, load: Load
 }
 
 fn put_direct(line: &mut [u8], at: usize, command: Command, load: LoadShown) -> usize
-    requires { ⌜ at ≤ length (now line) ⌝ }
     ensures { λ r. ⌜ Counts r (now (line .exit)) ⌝ }
 {
     match command {
@@ -50,7 +53,6 @@ fn put_direct(line: &mut [u8], at: usize, command: Command, load: LoadShown) -> 
 }
 
 fn put_standard(line: &mut [u8], at: usize, command: Standard, load: LoadShown) -> usize
-    requires { ⌜ at ≤ length (now line) ⌝ }
     ensures { λ r. ⌜ Counts r (now (line .exit)) ⌝ }
 {
     match command {
@@ -62,7 +64,6 @@ fn put_standard(line: &mut [u8], at: usize, command: Standard, load: LoadShown) 
 }
 
 fn put_open_command(line: &mut [u8], at: usize, command: OpenCommand) -> usize
-    requires { ⌜ at ≤ length (now line) ⌝ }
     ensures { λ r. ⌜ Counts r (now (line .exit)) ⌝ }
 {
     match command {
@@ -72,7 +73,6 @@ fn put_open_command(line: &mut [u8], at: usize, command: OpenCommand) -> usize
 }
 
 fn put_module_command(line: &mut [u8], at: usize, command: ModuleCommand) -> usize
-    requires { ⌜ at ≤ length (now line) ⌝ }
     ensures { λ r. ⌜ Counts r (now (line .exit)) ⌝ }
 {
     match command {
@@ -83,7 +83,6 @@ fn put_module_command(line: &mut [u8], at: usize, command: ModuleCommand) -> usi
 }
 
 fn put_load_command(line: &mut [u8], at: usize, command: LoadCommand, load: LoadShown) -> usize
-    requires { ⌜ at ≤ length (now line) ⌝ }
     ensures { λ r. ⌜ Counts r (now (line .exit)) ⌝ }
 {
     match command {
@@ -102,7 +101,6 @@ fn put_load_command(line: &mut [u8], at: usize, command: LoadCommand, load: Load
 }
 
 fn put_extended(line: &mut [u8], at: usize, command: Extended, load: LoadShown) -> usize
-    requires { ⌜ at ≤ length (now line) ⌝ }
     ensures { λ r. ⌜ Counts r (now (line .exit)) ⌝ }
 {
     match command {
@@ -117,29 +115,28 @@ fn put_extended(line: &mut [u8], at: usize, command: Extended, load: LoadShown) 
 
 // A command that dimmers alone have.
 fn put_for_lamp(line: &mut [u8], at: usize, load: LoadShown, name: &[u8]) -> usize
-    requires { ⌜ at ≤ length (now line) ⌝ }
     ensures { λ r. ⌜ Counts r (now (line .exit)) ⌝ }
 {
     match load {
         LoadShown::Level(_) => put(line, at, name),
         LoadShown::Sockets(_, _) => put_unlisted(line, at),
+        LoadShown::Any => put(line, at, name),
     }
 }
 
 // A command that outlets alone have.
 fn put_for_sockets(line: &mut [u8], at: usize, load: LoadShown, name: &[u8]) -> usize
-    requires { ⌜ at ≤ length (now line) ⌝ }
     ensures { λ r. ⌜ Counts r (now (line .exit)) ⌝ }
 {
     match load {
         LoadShown::Level(_) => put_unlisted(line, at),
         LoadShown::Sockets(_, _) => put(line, at, name),
+        LoadShown::Any => put(line, at, name),
     }
 }
 
 // What a broadcast or a cleanup tells its group, fast or not.
 fn put_group_command(line: &mut [u8], at: usize, command: GroupCommand) -> usize
-    requires { ⌜ at ≤ length (now line) ⌝ }
     ensures { λ r. ⌜ Counts r (now (line .exit)) ⌝ }
 {
     match command {
@@ -150,7 +147,6 @@ fn put_group_command(line: &mut [u8], at: usize, command: GroupCommand) -> usize
 }
 
 fn put_unlisted(line: &mut [u8], at: usize) -> usize
-    requires { ⌜ at ≤ length (now line) ⌝ }
     ensures { λ r. ⌜ Counts r (now (line .exit)) ⌝ }
 {
     put(line, at, b" (not listed)")

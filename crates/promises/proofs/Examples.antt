@@ -21,10 +21,7 @@ use Rattle.outlet.specs.Properties as outlet-properties
 use Rattle.outlet.specs.Groups.{socketDeed}
 use Rattle.decide.specs.Decide.{directPlan}
 use Rattle.decide.specs.Ruling.{rulingBy}
-use Rattle.device.specs.Run.{runOf, endOf}
-use Rattle.modem.specs.Arrived.{frameStart}
-use Rattle.modem.specs.Frames.{framedBy}
-use Rattle.modem.specs.Stream.{cutBy}
+use Rattle.device.specs.Run.{runOf}
 use Rattle.promises.specs.Bench.{withLevel, withRamp, fresh, us, linked, stranger, zeros}
 use Rattle.promises.specs.Bench.{first-record, other-record, memory, direct, long, cleanup, broadcast, reply, room}
 use Rattle.promises.specs.Table.{AllRight}
@@ -33,7 +30,7 @@ use Rattle.promises.specs.Refusals.{ping, refusals}
 use Rattle.promises.specs.Outlets.{outlet, switched, record-of, to-top-off, to-bottom, to-neither, group-1}
 use Rattle.promises.specs.Outlets.{get, got, id, mute, answered, takes, refuses, outlets}
 use Rattle.promises.specs.Hops.{flagged-by, shown-by, id-by, each-type, hop-examples}
-use Rattle.promises.specs.Sequence.{calls, OneAfterTheOther, FrameAfterFrame}
+use Rattle.promises.specs.Sequence.{calls, OneAfterTheOther}
 
 pub examples-right : AllRight examples
 unfolding choose firstFrom flagged standards extendeds groupCommandOf kindOf readOf meant placeOf stopOf writtenIfThere recordsFrom
@@ -53,11 +50,6 @@ pub one-after-the-other : OneAfterTheOther
 unfolding choose firstFrom standards kindOf readOf stopOf statusDeed percentDeed directPlan rulingBy runOf withLevel withRamp
     fresh us linked zeros first-record memory direct reply room calls
 one-after-the-other = refl
-
-pub frame-after-frame : FrameAfterFrame
-unfolding choose firstFrom standards kindOf readOf stopOf statusDeed percentDeed directPlan rulingBy runOf endOf frameStart cutBy framedBy
-    withLevel withRamp fresh us linked zeros first-record memory direct reply room
-frame-after-frame = refl
 
 pub outlets-right : AllRight outlets
 unfolding choose firstFrom flagged standards extendeds groupCommandOf kindOf readOf meant placeOf stopOf writtenIfThere recordsFrom upToMark

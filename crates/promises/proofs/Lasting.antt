@@ -1,17 +1,13 @@
--- What lasts is shown where it stands: by device, image and links.
+-- What lasts is shown where it stands: by device and links.
 use Rattle.links.proofs.Written.{length-written, others, itself, linked-after}
 use Rattle.device.proofs.Lasting as device
-use Rattle.image.proofs.Whole as image
-use Rattle.promises.specs.Lasting.{SameIdentity, SameKind, WholeModule, WritesLeave}
+use Rattle.promises.specs.Lasting.{SameIdentity, SameKind, WritesLeave}
 
 pub same-identity : SameIdentity
 same-identity = device.same-identity
 
 pub same-kind : SameKind
 same-kind = device.same-kind
-
-pub whole-module : WholeModule
-whole-module = image.whole-module
 
 pub writes-leave : WritesLeave
 writes-leave l k bytes few there =

@@ -25,9 +25,7 @@ pub mod RecordsRead
 pub mod Room
 pub mod Demand3
 pub mod Lent
-pub mod OneAnswer
 pub mod Flags
 pub mod Steers
 pub mod Longest
-pub mod Program
 pub mod Lasting

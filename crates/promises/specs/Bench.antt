@@ -5,11 +5,12 @@ use lib.ListN.{replicate}
 use Rattle.module.specs.declared.state.Load.{Load}
 use Rattle.module.specs.declared.state.Module.{Module}
 use Rattle.module.specs.Change.{withLoad}
-use Rattle.modem.specs.Program.{start}
+use Rattle.roster.specs.declared.word.Kind.{Kind}
+use Rattle.roster.specs.Seat.{benchOf}
 
 -- a fresh module of document 01's identity
 unfoldable pub fresh : Module
-fresh = start
+fresh = benchOf Kind.Dimmer
 
 -- the same with one value of its lamp set; the others that an example alters are set by module
 unfoldable pub withLevel : ℕ → Module → Module

@@ -1,4 +1,4 @@
--- What lasts: who the module is and of what kind, what an image holds, and what a write leaves ("The module we simulate", "Link memory").
+-- What lasts: who the module is and of what kind, and what a write leaves ("The module we simulate", "Link memory").
 use Prim.Native.Nat.{ℕ, _+_, _≤_}
 use mathlib.Core.Path.{_≡_}
 use mathlib.Core.List.{List}
@@ -12,7 +12,6 @@ use Rattle.links.specs.Write.{written, afterWrite}
 use Rattle.module.specs.declared.state.Module.{Module}
 use Rattle.module.specs.Module.{kindOf}
 use Rattle.device.specs.Step.{stepOf}
-use Rattle.image.specs.Image.{moduleOf, imageOf}
 
 -- no message alters who the module is: address, category, subcategory, firmware and revision stay
 abbrev pub SameIdentity : Type 0
@@ -21,10 +20,6 @@ SameIdentity = (m : Module) (l s room : List ℕ) → stepOf m l s room .next .i
 -- nor of what kind it is
 abbrev pub SameKind : Type 0
 SameKind = (m : Module) (l s room : List ℕ) → kindOf (stepOf m l s room .next .load) ≡ kindOf (m .load)
-
--- an image holds the whole module: what one call leaves is what the next one finds
-abbrev pub WholeModule : Type 0
-WholeModule = (m : Module) → moduleOf (imageOf m) ≡ m
 
 -- eight bytes or fewer, over the first bytes of a record that is there
 pub record WriteLeaves (l : List ℕ) (k : ℕ) (bytes : List ℕ) : Type 0 where

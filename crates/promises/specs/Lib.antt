@@ -9,7 +9,6 @@ pub mod Hops
 pub mod Demand1
 pub mod Demand2
 pub mod Demand3
-pub mod OneAnswer
 pub mod Legal
 pub mod LegalDimmer
 pub mod LegalOutlet
@@ -26,5 +25,4 @@ pub mod Room
 pub mod Lent
 pub mod Flags
 pub mod Steers
-pub mod Program
 pub mod Lasting

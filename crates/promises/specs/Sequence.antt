@@ -1,9 +1,7 @@
 -- P7's two messages, one after the other ("Bench examples").
 use mathlib.Core.Path.{_≡_}
-use mathlib.Core.List.{List, [], _∷_, _++_, map}
+use mathlib.Core.List.{List, [], _∷_, map}
 use Rattle.device.specs.Run.{Call, runOf}
-use Rattle.modem.specs.Frames.{frameOf}
-use Rattle.modem.specs.Stream.{streamOf}
 use Rattle.promises.specs.Bench.{withLevel, fresh, linked, memory, direct, reply, room}
 use Rattle.promises.specs.Table.{outOf}
 
@@ -19,16 +17,3 @@ OneAfterTheOther =
     record { number = 0; sent = reply linked 0x2f 0x39 0x32; read = 1; next = withLevel 0x80 fresh; links = memory; room = reply linked 0x2f 0x39 0x32 } ∷
     record { number = 0; sent = reply linked 0x2f 0x00 0x32; read = 1; next = withLevel 0x80 fresh; links = memory; room = reply linked 0x2f 0x00 0x32 } ∷
     []
-
--- the same as the program has them: each frame gets its own reply, and none that of the frame before
-abbrev pub FrameAfterFrame : Type 0
-FrameAfterFrame =
-    streamOf (record { device = fresh; links = memory }) (room 9) (frameOf (direct linked 0x39 0x32) ++ frameOf (direct linked 0x19 0x06)) ≡
-    record {
-      written =
-          frameOf (reply linked 0x2f 0x39 0x32) ∷
-          frameOf (reply linked 0x2f 0x00 0x32) ∷
-          [];
-      state = record { device = withLevel 0x80 fresh; links = memory };
-      kept = [];
-    }

@@ -19,3 +19,7 @@ freshAs Kind.Outlet i = freshOutlet i
 abbrev pub freshAt : Kind → Address → Module
 freshAt Kind.Dimmer a = freshDimmer (identityOf a 0x01 0x0f 0xc1)
 freshAt Kind.Outlet a = freshOutlet (identityOf a 0x02 0x39 0xc2)
+
+-- a module alone, at address 00 10 3A whatever its kind
+abbrev pub benchOf : Kind → Module
+benchOf kind = freshAt kind (record { high = 0x00; middle = 0x10; low = 0x3a })

@@ -4,7 +4,19 @@ use module::state::Identity;
 use module::state::Module;
 use wire::address::Address;
 ghost use mathlib.Core.Path.{_≡_};
-ghost use Rattle.roster.specs.Seat.{identityOf, freshAs, freshAt};
+ghost use Rattle.roster.specs.Seat.{identityOf, freshAs, freshAt, benchOf};
+
+// A module alone, at one address whatever its kind.
+pub fn bench_of(kind: Kind) -> Module
+    ensures { λ r. ⌜ r ≡ benchOf kind ⌝ }
+{
+    let own = Address {
+        high: 0x00,
+        middle: 0x10,
+        low: 0x3a,
+    };
+    fresh_at(kind, own)
+}
 
 pub fn fresh_at(kind: Kind, a: Address) -> Module
     ensures { λ r. ⌜ r ≡ freshAt kind a ⌝ }

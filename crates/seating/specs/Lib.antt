@@ -2,3 +2,4 @@
 pub mod Whom
 pub mod Heed
 pub mod Sat
+pub mod Start

@@ -1,11 +1,12 @@
 // A line for a person to read: result, sender, what was asked, reply, records read, what the load is at.
-use crate::name::put_kind;
-use crate::name::put_name;
-use crate::put::put;
-use crate::put::put_byte;
-use crate::put::put_bytes;
-use crate::put::put_number;
 use basis::min;
+use letters::put;
+use letters::put_byte;
+use letters::put_bytes;
+use letters::put_number;
+use names::LoadShown;
+use names::put_kind;
+use names::put_name;
 use wire::read::heard_as;
 ghost use Prim.Native.Nat.{_≤_};
 ghost use lib.ListN.{length};
@@ -16,13 +17,6 @@ pub struct Shown {
     pub result: u8,
     pub read: u64,
     pub load: LoadShown,
-}
-
-// What the load is at, a case for each kind of module.
-pub enum LoadShown {
-    Level(u8),
-    // The top one and the bottom one, on or off.
-    Sockets(bool, bool),
 }
 
 // The frame's line, laid over the start of `line`; how many bytes it has there. What no longer fits is left out.
@@ -52,8 +46,7 @@ pub fn put_heard(line: &mut [u8], frame: &[u8], shown: Shown, reply: &[u8]) -> u
 pub fn put_seat(line: &mut [u8], at: usize, seat: u64, load: LoadShown) -> usize
     ensures { λ r. ⌜ Counts r (now (line .exit)) ⌝ }
 {
-    let from = min(at, line.len());
-    let mut to = put(line, from, b" | seat ");
+    let mut to = put(line, at, b" | seat ");
     to = put_number(line, to, seat);
     put_load(line, to, load)
 }
@@ -61,12 +54,10 @@ pub fn put_seat(line: &mut [u8], at: usize, seat: u64, load: LoadShown) -> usize
 pub fn put_end(line: &mut [u8], at: usize) -> usize
     ensures { λ r. ⌜ Counts r (now (line .exit)) ⌝ }
 {
-    let from = min(at, line.len());
-    put(line, from, b"\n")
+    put(line, at, b"\n")
 }
 
 fn put_load(line: &mut [u8], at: usize, load: LoadShown) -> usize
-    requires { ⌜ at ≤ length (now line) ⌝ }
     ensures { λ r. ⌜ Counts r (now (line .exit)) ⌝ }
 {
     match load {
@@ -80,11 +71,11 @@ fn put_load(line: &mut [u8], at: usize, load: LoadShown) -> usize
             to = put(line, to, b", bottom");
             put_switch(line, to, bottom)
         }
+        LoadShown::Any => put(line, at, b""),
     }
 }
 
 fn put_switch(line: &mut [u8], at: usize, is_on: bool) -> usize
-    requires { ⌜ at ≤ length (now line) ⌝ }
     ensures { λ r. ⌜ Counts r (now (line .exit)) ⌝ }
 {
     if is_on {
@@ -96,7 +87,6 @@ fn put_switch(line: &mut [u8], at: usize, is_on: bool) -> usize
 
 // The paper's number and its name.
 fn put_result(line: &mut [u8], at: usize, result: u8) -> usize
-    requires { ⌜ at ≤ length (now line) ⌝ }
     ensures { λ r. ⌜ Counts r (now (line .exit)) ⌝ }
 {
     match result {
@@ -117,11 +107,10 @@ fn put_result(line: &mut [u8], at: usize, result: u8) -> usize
 
 // The message behind the frame's two bytes.
 fn put_asked(line: &mut [u8], at: usize, frame: &[u8], load: LoadShown) -> usize
-    requires { ⌜ at ≤ length (now line) ⌝ }
     ensures { λ r. ⌜ Counts r (now (line .exit)) ⌝ }
 {
     if frame.len() < 11 {
-        return at;
+        return put(line, at, b"");
     }
     let message = &frame[2..];
     let to = put_route(line, at, message);
@@ -129,7 +118,6 @@ fn put_asked(line: &mut [u8], at: usize, frame: &[u8], load: LoadShown) -> usize
 }
 
 fn put_route(line: &mut [u8], at: usize, message: &[u8]) -> usize
-    requires { ⌜ at ≤ length (now line) ⌝ }
     requires { ⌜ 9 ≤ length (now message) ⌝ }
     ensures { λ r. ⌜ Counts r (now (line .exit)) ⌝ }
 {
@@ -140,7 +128,6 @@ fn put_route(line: &mut [u8], at: usize, message: &[u8]) -> usize
 }
 
 fn put_command(line: &mut [u8], at: usize, message: &[u8], load: LoadShown) -> usize
-    requires { ⌜ at ≤ length (now line) ⌝ }
     requires { ⌜ 9 ≤ length (now message) ⌝ }
     ensures { λ r. ⌜ Counts r (now (line .exit)) ⌝ }
 {
@@ -152,11 +139,10 @@ fn put_command(line: &mut [u8], at: usize, message: &[u8], load: LoadShown) -> u
 }
 
 fn put_data(line: &mut [u8], at: usize, data: &[u8]) -> usize
-    requires { ⌜ at ≤ length (now line) ⌝ }
     ensures { λ r. ⌜ Counts r (now (line .exit)) ⌝ }
 {
     if data.len() == 0 {
-        return at;
+        return put(line, at, b"");
     }
     let to = put(line, at, b" data");
     put_bytes(line, to, data)

@@ -142,7 +142,7 @@ fn refusals_show_whom_they_are_by() {
         ),
         (
             standard(HER, [0x00, 0x10, 0x3A], 0x1F, [0x11, 0x80]),
-            "1 bad length | from AA BB CC to 00 10 3A | direct 11 80 (not listed) | reply | read 0",
+            "1 bad length | from AA BB CC to 00 10 3A | direct 11 80 on | reply | read 0",
         ),
         (
             standard(HER, [0x00, 0x10, 0x3A], 0x2F, [0x11, 0x80]),
@@ -179,7 +179,7 @@ fn two_of_one_address_are_nine() {
         ),
         (
             standard(HER, [0x00, 0x10, 0x3A], 0x1F, [0x11, 0x80]),
-            "9 two of one address | from AA BB CC to 00 10 3A | direct 11 80 (not listed) | reply | read 0",
+            "9 two of one address | from AA BB CC to 00 10 3A | direct 11 80 on | reply | read 0",
         ),
     ]);
 }

@@ -117,7 +117,7 @@ fn digits(bytes: &[u8]) -> String {
     bytes.iter().map(|byte| format!(" {byte:02X}")).collect()
 }
 
-/// By result, by seat, and for every seat; no more than sixteen are counted, even of a row that has more.
+/// By result, by seat, and for every seat; of a row over sixteen no seat is served, and none is listed.
 fn counts_of(served: &[Served], seats: usize) -> Vec<String> {
     let count = |wanted: &dyn Fn(&Served) -> bool| {
         let wanted = served.iter().filter(|served| wanted(served));
@@ -127,7 +127,8 @@ fn counts_of(served: &[Served], seats: usize) -> Vec<String> {
         let count = count(&|served| usize::from(served.outcome.result) == result);
         format!("{name}: {count}")
     });
-    let seats = (0..seats.min(MOST_SEATS)).map(|seat| {
+    let listed = if seats > MOST_SEATS { 0 } else { seats };
+    let seats = (0..listed).map(|seat| {
         let count = count(&|served| !served.is_to_all() && served.seats() == [seat]);
         format!("seat {}: {count}", seat + 1)
     });

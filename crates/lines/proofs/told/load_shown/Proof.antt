@@ -1,6 +1,6 @@
 use borrow.Author.Needs.{needs}
-use Rattle.desk.proofs.answer.load_shown.Statement.{statement}
-use Rattle.desk.proofs.answer.load_shown.Tie as tie
+use Rattle.lines.proofs.told.load_shown.Statement.{statement}
+use Rattle.lines.proofs.told.load_shown.Tie as tie
 
 pub load-shown-spec : {M : Type 1} → statement M
 load-shown-spec =

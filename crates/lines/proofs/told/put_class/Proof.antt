@@ -3,14 +3,14 @@ use Prim.Native.Nat.{_≤_, _-_}
 use mathlib.Core.Path.{_≡_, refl}
 use native.Mathlib.Omega.{arith}
 use lib.ListN.{length}
-use Rattle.desk.proofs.answer.put_class.Statement.{statement}
-use Rattle.desk.proofs.answer.put_class.Tie as tie
+use Rattle.lines.proofs.told.put_class.Statement.{statement}
+use Rattle.lines.proofs.told.put_class.Tie as tie
 
 abbrev Inv-loop : tie.InvT-loop
-Inv-loop out₀ frame h reply row n at₀ i₀ out at i = (length out ≡ length out₀) × (i ≤ n) × (n ≤ 16)
+Inv-loop line₀ frame h reply row n at₀ i₀ line at i = (length line ≡ length line₀) × (i ≤ n) × (n ≤ 16)
 
 abbrev μ-loop : tie.MeasureT-loop
-μ-loop out₀ frame h reply row n at₀ i₀ out at i = n - i
+μ-loop line₀ frame h reply row n at₀ i₀ line at i = n - i
 
 loop-holds : tie.Need-loop-holds Inv-loop μ-loop
 loop-holds c = (refl, omega arith, omega (arith, c .before .before .before .before .before .min .ensures))

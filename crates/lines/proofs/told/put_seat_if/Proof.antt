@@ -1,8 +1,8 @@
 use native.Mathlib.Omega.{arith}
 use borrow.Author.Needs.{needs}
 use Rattle.basis.proofs.Counted.{counts}
-use Rattle.desk.proofs.answer.put_seat_if.Statement.{statement}
-use Rattle.desk.proofs.answer.put_seat_if.Tie as tie
+use Rattle.lines.proofs.told.put_seat_if.Statement.{statement}
+use Rattle.lines.proofs.told.put_seat_if.Tie as tie
 
 pub put-seat-if-spec : {M : Type 1} → statement M
 put-seat-if-spec =

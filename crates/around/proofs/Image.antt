@@ -1,0 +1,5 @@
+use Rattle.image.proofs.Whole as image
+use Rattle.around.specs.Image.{WholeModule}
+
+pub whole-module : WholeModule
+whole-module = image.whole-module

@@ -1,0 +1,2 @@
+-- What the screen shows of whoever sits there.
+pub mod Shown

@@ -21,11 +21,12 @@ use Rattle.module.specs.Module.{kindOf}
 use Rattle.device.specs.Step.{Step}
 use Rattle.device.specs.Run.{Call, callOf, leftBy}
 use Rattle.device.proofs.Lasting.{same-identity, same-kind}
-use Rattle.class.specs.declared.outcome.ClassOutcome.{ClassOutcome}
-use Rattle.class.specs.Row.{nobody, seatAt, nameAt, isRowFit, shareAt, withShare, seatNamed, isDoubled}
+use Rattle.row.specs.declared.outcome.ClassOutcome.{ClassOutcome}
+use Rattle.row.specs.Row.{isRowFit, seatNamed, isDoubled}
+use Rattle.class.specs.Seat.{nobody, seatAt, nameAt, shareAt, withShare}
 use Rattle.class.specs.Class.{ClassStep, refusedBy, seatStep, servedAt, addressedTo, Heard, heardFrom, broadcastTo, classOf}
-use Rattle.class.proofs.Fit.{share-there}
-use Rattle.class.proofs.Named.{doubled-agrees}
+use Rattle.row.proofs.Fit.{share-there}
+use Rattle.row.proofs.Named.{doubled-agrees}
 use Rattle.apart.specs.Lesson.{Class, Seated, tell, leaves, alone, isFor, sumFrom}
 use Rattle.apart.specs.Alone.{TakenAlone, LeftAlone, AnsweredAlone, OfferedToAll, Stays, RowStays}
 use Rattle.apart.proofs.Shares.{length-put, own-share, other-share}

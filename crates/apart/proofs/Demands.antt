@@ -16,9 +16,10 @@ use Rattle.links.specs.Record.{isFit}
 use Rattle.reply.specs.declared.due.ReplyType.{ReplyType}
 use Rattle.reply.specs.Message.{standard}
 use Rattle.device.specs.Run.{callOf}
-use Rattle.class.specs.Number.{classNumberOf}
-use Rattle.class.specs.Row.{seatAt, nameAt, isShareFit}
-use Rattle.class.proofs.Fit.{fit, share-there}
+use Rattle.row.specs.Number.{classNumberOf}
+use Rattle.row.specs.Row.{isShareFit}
+use Rattle.class.specs.Seat.{seatAt, nameAt}
+use Rattle.row.proofs.Fit.{fit, share-there}
 use Rattle.promises.specs.Demand3.{pingOrId, Stranger}
 use Rattle.promises.proofs.Demand3.{nak-exactly, learns-nothing, unmissed}
 use Rattle.promises.proofs.Legal.{taken}

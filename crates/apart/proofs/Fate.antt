@@ -20,12 +20,13 @@ use Rattle.results.specs.Number.{numberOf}
 use Rattle.module.specs.declared.state.Module.{Module}
 use Rattle.device.specs.Step.{Step, stepOf}
 use Rattle.device.specs.Run.{Call}
-use Rattle.class.specs.declared.outcome.ClassOutcome.{ClassOutcome}
-use Rattle.class.specs.Number.{classNumberOf}
-use Rattle.class.specs.Row.{nobody, seatAt, nameAt, isRowFit, shareAt, withShare, seatNamed, isDoubled}
+use Rattle.row.specs.declared.outcome.ClassOutcome.{ClassOutcome}
+use Rattle.row.specs.Number.{classNumberOf}
+use Rattle.row.specs.Row.{isRowFit, seatNamed, isDoubled}
+use Rattle.class.specs.Seat.{nobody, seatAt, nameAt, shareAt, withShare}
 use Rattle.class.specs.Class.{refusedBy, seatStep, servedAt, addressedTo, Heard, heardAt, heardFrom, broadcastTo, classOf}
-use Rattle.class.proofs.Fit.{share-there}
-use Rattle.class.proofs.Named.{same-address, found}
+use Rattle.row.proofs.Fit.{share-there}
+use Rattle.row.proofs.Named.{same-address, found}
 use Rattle.promises.specs.Demand1.{Unaltered, Fate, carried-out as done, silent as quiet, not-linked as unlinked, not-listed as unlisted}
 use Rattle.promises.proofs.Demand1.{fate as always-fated}
 use Rattle.apart.specs.Lesson.{Class, tell, leaves}

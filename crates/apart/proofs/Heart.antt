@@ -9,10 +9,11 @@ use Rattle.wire.specs.Kinds.{isBroadcast}
 use Rattle.results.specs.declared.Outcome.{Outcome}
 use Rattle.device.specs.Step.{Step, stepOf}
 use Rattle.device.specs.Run.{Call, State, callOf, leftBy, runOf, endOf}
-use Rattle.class.specs.declared.outcome.ClassOutcome.{ClassOutcome}
-use Rattle.class.specs.Row.{nameAt, isRowFit, isDoubled}
-use Rattle.class.proofs.Fit.{share-there}
-use Rattle.class.proofs.Named.{doubled-agrees}
+use Rattle.row.specs.declared.outcome.ClassOutcome.{ClassOutcome}
+use Rattle.row.specs.Row.{isRowFit, isDoubled}
+use Rattle.class.specs.Seat.{nameAt}
+use Rattle.row.proofs.Fit.{share-there}
+use Rattle.row.proofs.Named.{doubled-agrees}
 use Rattle.apart.specs.Lesson.{Class, Seated, tell, leaves, afterAll, width, alone, isFor}
 use Rattle.apart.specs.Alone.{Answers}
 use Rattle.apart.specs.Heart.{contributes, Gives, answer, part, none, ours, others, Parted, AlwaysParted, RunsAlone, SameRow, QuietPupil}

@@ -16,7 +16,7 @@ use Rattle.module.specs.declared.change.Change.{Change}
 use Rattle.decide.specs.declared.rule.Ruling.{Ruling}
 use Rattle.decide.specs.Ruling.{readRuling, rulingBy, rulingOf}
 use Rattle.device.specs.Step.{Step, stepOf}
-use Rattle.class.proofs.Readings.{some-kind}
+use Rattle.row.proofs.Readings.{some-kind}
 use Rattle.apart.specs.Lesson.{isFor}
 
 -- it is foreign then, if it is whole

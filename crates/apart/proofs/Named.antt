@@ -10,8 +10,8 @@ use Rattle.basis.proofs.First.{Told, at, nowhere, told, unique}
 use Rattle.basis.proofs.Tests.{clash}
 use Rattle.wire.specs.declared.address.Address.{Address}
 use Rattle.wire.specs.Bytes.{equals}
-use Rattle.class.specs.Row.{seatNamed, isTaken, isDoubled}
-use Rattle.class.proofs.Named.{same-address}
+use Rattle.row.specs.Row.{seatNamed, isTaken, isDoubled}
+use Rattle.row.proofs.Named.{same-address}
 
 -- a test that holds first at no position below n holds at none
 pub fails-below : (P : ℕ → Bool) (n : ℕ) → ltb (first P n) n ≡ false → (j : ℕ) → j < n → P j ≡ false

@@ -33,7 +33,7 @@ use Rattle.decide.specs.Groups.{broadcastBy, broadcastPlan}
 use Rattle.decide.specs.Decide.{broadcastWanted}
 use Rattle.decide.specs.Ruling.{readRuling, rulingBy, rulingOf}
 use Rattle.device.specs.Step.{Step, linksAfter, stepOf}
-use Rattle.class.proofs.Readings.{not-direct, not-cleanup}
+use Rattle.row.proofs.Readings.{not-direct, not-cleanup}
 
 -- a write alters no length
 write-length : (l : List ℕ) (k : ℕ) (bytes : List ℕ) → length (writtenIfThere l k bytes) ≡ length l

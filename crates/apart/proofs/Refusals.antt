@@ -17,11 +17,12 @@ use Rattle.wire.specs.Bytes.{toOf, equals, isExtended}
 use Rattle.wire.specs.Kinds.{isDirect, isCleanup, isBroadcast, isUnheard}
 use Rattle.results.specs.declared.Outcome.{Outcome}
 use Rattle.device.specs.Run.{Call}
-use Rattle.class.specs.declared.outcome.ClassOutcome.{ClassOutcome}
-use Rattle.class.specs.Row.{nobody, nameAt, isRowFit, seatNamed, isTaken, isDoubled}
+use Rattle.row.specs.declared.outcome.ClassOutcome.{ClassOutcome}
+use Rattle.row.specs.Row.{isRowFit, seatNamed, isTaken, isDoubled}
+use Rattle.class.specs.Seat.{nobody, nameAt}
 use Rattle.class.specs.Class.{ClassStep, refusedBy, classOf}
-use Rattle.class.proofs.Fit.{Fit, fit}
-use Rattle.class.proofs.Named.{same-address, itself, found}
+use Rattle.row.proofs.Fit.{Fit, fit}
+use Rattle.row.proofs.Named.{same-address, itself, found}
 use Rattle.promises.proofs.Whens.{is-whole, is-unwhole}
 use Rattle.apart.specs.Lesson.{Class, tell, leaves, width}
 use Rattle.apart.specs.Refusals.{When11, no-seat, too-many, unequal, no-share, long-share, odd-share, When9, Unheard, other-type, long-not-direct, Refused, InOrder, RefusedInOrder, ClassNumbered}

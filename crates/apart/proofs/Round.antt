@@ -13,7 +13,7 @@ use borrow.Rule.Slice.PartMut.{midOf, mid-len}
 use Rattle.wire.specs.Kinds.{isBroadcast}
 use Rattle.results.specs.Number.{numberOf}
 use Rattle.device.specs.Step.{Step, stepOf}
-use Rattle.class.specs.Row.{nobody, seatAt, shareAt}
+use Rattle.class.specs.Seat.{nobody, seatAt, shareAt}
 use Rattle.class.specs.Class.{seatStep, Heard, heardAt, heardFrom}
 use Rattle.apart.specs.Lesson.{sumFrom, anyFrom}
 use Rattle.apart.proofs.Shares.{length-put, own-share, other-share}

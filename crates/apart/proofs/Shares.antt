@@ -10,7 +10,7 @@ use lib.ListN.{length, take, drop}
 use lib.Seq.{length-take-le, take-at, drop-at, take-take, drop-drop, take-add}
 use borrow.Author.Tests.{ltb-true, ltb-false}
 use borrow.Rule.Slice.PartMut.{midOf, putMid, same-len-mid, mid-len, take-put, drop-put}
-use Rattle.class.specs.Row.{shareAt, withShare}
+use Rattle.class.specs.Seat.{shareAt, withShare}
 
 -- a part is the end of a beginning
 end-of : (p w : ℕ) (l : List ℕ) → p ≤ length l → take w (drop p l) ≡ drop p (take (p + w) l)

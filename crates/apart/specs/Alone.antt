@@ -12,8 +12,8 @@ use Rattle.results.specs.Number.{numberOf}
 use Rattle.module.specs.Module.{kindOf}
 use Rattle.device.specs.Step.{Step}
 use Rattle.device.specs.Run.{Call, callOf, leftBy}
-use Rattle.class.specs.declared.outcome.ClassOutcome.{ClassOutcome}
-use Rattle.class.specs.Row.{seatAt, nameAt}
+use Rattle.row.specs.declared.outcome.ClassOutcome.{ClassOutcome}
+use Rattle.class.specs.Seat.{seatAt, nameAt}
 use Rattle.class.specs.Class.{ClassStep}
 use Rattle.apart.specs.Lesson.{Class, Seated, tell, leaves, alone, isFor, sumFrom, anyFrom}
 

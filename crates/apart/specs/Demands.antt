@@ -13,8 +13,8 @@ use Rattle.reply.specs.declared.due.ReplyType.{ReplyType}
 use Rattle.reply.specs.Message.{standard}
 use Rattle.device.specs.Step.{Step}
 use Rattle.device.specs.Run.{Call, runOf, endOf}
-use Rattle.class.specs.Number.{classNumberOf}
-use Rattle.class.specs.Row.{seatAt, nameAt}
+use Rattle.row.specs.Number.{classNumberOf}
+use Rattle.class.specs.Seat.{seatAt, nameAt}
 use Rattle.promises.specs.Room.{dueTo}
 use Rattle.promises.specs.Demand3.{Stranger, pingOrId, Struck}
 use Rattle.promises.specs.Legal.{Effect, FromLinked}

@@ -12,7 +12,7 @@ use Rattle.module.specs.Module.{freshDimmer, freshOutlet}
 use Rattle.module.specs.Change.{withLoad}
 use Rattle.device.specs.Run.{Call}
 use Rattle.class.specs.Class.{ClassStep}
-use Rattle.class.specs.Number.{classNumberOf}
+use Rattle.row.specs.Number.{classNumberOf}
 use Rattle.promises.specs.Bench.{linked, stranger, zeros, memory, room}
 use Rattle.promises.specs.Outlets.{group-1, record-of}
 use Rattle.apart.specs.Lesson.{Class, tell}

@@ -8,8 +8,8 @@ use Rattle.basis.specs.Laid.{laid}
 use Rattle.basis.specs.Numbers.{within}
 use Rattle.wire.specs.Bytes.{toOf}
 use Rattle.device.specs.Run.{Call}
-use Rattle.class.specs.Number.{classNumberOf}
-use Rattle.class.specs.Row.{seatAt, nameAt}
+use Rattle.row.specs.Number.{classNumberOf}
+use Rattle.class.specs.Seat.{seatAt, nameAt}
 use Rattle.class.specs.Class.{ClassStep}
 use Rattle.promises.specs.Demand1.{nakOf}
 use Rattle.apart.specs.Lesson.{Class, tell, leaves}

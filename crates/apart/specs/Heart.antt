@@ -7,7 +7,7 @@ use lib.ListN.{length}
 use Rattle.wire.specs.Kinds.{isBroadcast}
 use Rattle.device.specs.Step.{Step}
 use Rattle.device.specs.Run.{Call, leftBy, runOf, endOf}
-use Rattle.class.specs.Row.{nameAt}
+use Rattle.class.specs.Seat.{nameAt}
 use Rattle.class.specs.Class.{Heard, seatStep, heardFrom}
 use Rattle.apart.specs.Lesson.{Class, Seated, tell, leaves, afterAll, width, alone, isFor}
 use Rattle.apart.specs.Alone.{Answers}

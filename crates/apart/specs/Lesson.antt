@@ -9,7 +9,8 @@ use Rattle.wire.specs.Bytes.{toOf, equals, isWhole}
 use Rattle.wire.specs.Kinds.{isBroadcast, isUnheard}
 use Rattle.module.specs.declared.state.Module.{Module}
 use Rattle.device.specs.Run.{Call, State}
-use Rattle.class.specs.Row.{seatAt, nameAt, isRowFit, shareAt, isDoubled}
+use Rattle.row.specs.Row.{isRowFit, isDoubled}
+use Rattle.class.specs.Seat.{seatAt, nameAt, shareAt}
 use Rattle.class.specs.Class.{ClassStep, classOf}
 
 -- a row with its link memory

@@ -8,9 +8,9 @@ use Rattle.wire.specs.Bytes.{toOf, isExtended}
 use Rattle.wire.specs.Kinds.{isDirect, isCleanup, isBroadcast}
 use Rattle.results.specs.declared.Outcome.{Outcome}
 use Rattle.device.specs.Run.{Call}
-use Rattle.class.specs.declared.outcome.ClassOutcome.{ClassOutcome}
-use Rattle.class.specs.Number.{classNumberOf}
-use Rattle.class.specs.Row.{nameAt}
+use Rattle.row.specs.declared.outcome.ClassOutcome.{ClassOutcome}
+use Rattle.row.specs.Number.{classNumberOf}
+use Rattle.class.specs.Seat.{nameAt}
 use Rattle.promises.specs.Numbers.{When1}
 use Rattle.apart.specs.Lesson.{Class, tell, leaves, width}
 

@@ -8,7 +8,7 @@ use Rattle.reply.specs.Reply.{replyOf}
 use Rattle.reply.specs.Sending.{Sending}
 use Rattle.module.specs.declared.state.Module.{Module}
 use Rattle.device.specs.Step.{Step, Comes}
-use Rattle.class.specs.declared.progress.ClassAnswer.{ClassAnswer}
+use Rattle.row.specs.declared.progress.ClassAnswer.{ClassAnswer}
 use Rattle.class.specs.Class.{ClassStep, ClassComes}
 use Rattle.class.specs.Seats.{SeatsCome}
 use Rattle.seating.specs.declared.heed.Seating.{Seating}
@@ -147,11 +147,15 @@ each-once =
       decide-ruling-by = λ _ _ _. by-value _;
       device-step = λ _ _ _ _. stepping _;
       device-serve = λ _ _ _ _. stepping _;
+      row-class-number = λ _. by-value _;
+      row-hear = λ _. by-value _;
+      row-silent = λ _. by-value _;
+      row-ended = λ _ _. by-value _;
+      row-open = λ _ _ _ _. by-value _;
+      row-noticed = λ _ _ _ _ _. by-value _;
+      row-settle = λ _. by-value _;
       class-class-step = λ _ _ _ _. telling-class _;
       class-class-seats = λ _ _ _ _ _. telling-seats _;
-      class-hear = λ _. by-value _;
-      class-noticed = λ _ _ _ _ _. by-value _;
-      class-class-number = λ _. by-value _;
       seating-heed = λ s _ _ _. heeding _ s;
       seating-alone = λ _. by-value _;
       seating-class-with = λ _ _. by-value _;

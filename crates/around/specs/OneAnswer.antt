@@ -54,13 +54,13 @@ use Rattle.decide.specs.declared.rule.Ruling.{Ruling}
 use Rattle.decide.specs.Ruling.{rulingBy}
 use Rattle.device.specs.declared.step.Answer.{Answer}
 use Rattle.device.specs.Step.{stepBy, Comes, StepPromise}
-use Rattle.class.specs.declared.outcome.ClassOutcome.{ClassOutcome}
-use Rattle.class.specs.declared.progress.ClassAnswer.{ClassAnswer}
-use Rattle.class.specs.declared.progress.Progress.{Progress}
+use Rattle.row.specs.declared.outcome.ClassOutcome.{ClassOutcome}
+use Rattle.row.specs.declared.progress.ClassAnswer.{ClassAnswer}
+use Rattle.row.specs.declared.progress.Progress.{Progress}
 use Rattle.class.specs.declared.seats.SeatsAnswer.{SeatsAnswer}
-use Rattle.class.specs.Number.{classNumberOf}
-use Rattle.class.specs.Row.{heardIn}
-use Rattle.class.specs.Turns.{noticed}
+use Rattle.row.specs.Number.{classNumberOf}
+use Rattle.row.specs.Row.{heardIn}
+use Rattle.row.specs.Round.{silent, ended, opened, noticed, settledIfFew}
 use Rattle.class.specs.Class.{classOf, ClassComes}
 use Rattle.class.specs.Seats.{seatsOf, SeatsCome}
 use Rattle.seating.specs.declared.heed.Seating.{Seating}
@@ -164,13 +164,17 @@ pub record EachOnce : Type 0 where
   pub device-step : (m : Module) (l s room : List ℕ) → Only (λ (d : Called). StepPromise m l s room (d .answer) (d .links) (d .room))
   pub device-serve : (m : Module) (l : List ℕ) (heard : Message) (room : List ℕ)
       → Only (λ (d : Called). Comes (stepBy m l heard room) (d .answer) (d .links) (d .room))
+  pub row-class-number : (o : ClassOutcome) → Only (λ (r : ℕ). r ≡ classNumberOf o)
+  pub row-hear : (s : List ℕ) → Only (λ (r : Message). r ≡ heardIn s)
+  pub row-silent : (o : ClassOutcome) → Only (λ (r : ClassAnswer). r ≡ silent o)
+  pub row-ended : (t : Progress) (answer : ClassAnswer) → Only (λ (r : Progress). r ≡ ended t answer)
+  pub row-open : (n bytes : ℕ) (s : List ℕ) (heard : Message) → Only (λ (r : Progress). r ≡ opened n bytes s (heard .reading))
+  pub row-noticed : (names : List Address) (n bytes : ℕ) (s : List ℕ) (heard : Message) → Only (λ (r : Progress). r ≡ noticed names n bytes s (heard .reading))
+  pub row-settle : (t : Progress) → Only (λ (r : Progress). r ≡ settledIfFew t)
   pub class-class-step : (row : List Module) (l s room : List ℕ)
       → Only (λ (d : ClassCalled). ClassComes (classOf row l s room) (d .answer) (d .row) (d .links) (d .room))
   pub class-class-seats : (seats : List Module) (n : ℕ) (l s room : List ℕ)
       → Only (λ (d : SeatsCalled). SeatsCome (seatsOf seats n l s room) (d .answer) (d .links) (d .room))
-  pub class-hear : (s : List ℕ) → Only (λ (r : Message). r ≡ heardIn s)
-  pub class-noticed : (names : List Address) (n bytes : ℕ) (s : List ℕ) (heard : Message) → Only (λ (r : Progress). r ≡ noticed names n bytes s (heard .reading))
-  pub class-class-number : (o : ClassOutcome) → Only (λ (r : ℕ). r ≡ classNumberOf o)
   pub seating-heed : (s : Seating) (l message room : List ℕ)
       → Only (λ (d : HeedCalled). Heeds (heedOf s l message room) s (d .heeded) (d .links) (d .room))
   pub seating-alone : (m : Module) → Only (λ (r : Seating). r ≡ aloneWith m)

@@ -26,13 +26,13 @@ use denote.Triple.Clauses.{Lasts, ensured, lasts}
 use Rattle.wire.specs.declared.kind.Message.{Message}
 use Rattle.wire.proofs.kind.Message as Q
 use Rattle.wire.proofs.kind.Message.Laws as Q′
-use Rattle.class.specs.declared.progress.Progress.{Progress}
-use Rattle.class.specs.Row.{heardIn}
-use Rattle.class.specs.Turns.{opened}
-use Rattle.class.proofs.progress.Progress as Y
+use Rattle.row.specs.declared.progress.Progress.{Progress}
+use Rattle.row.specs.Row.{heardIn}
+use Rattle.row.specs.Round.{opened}
+use Rattle.row.proofs.progress.Progress as Y
 use Rattle.class.proofs.Machine.{machH}
-use Rattle.class.proofs.open.hear as hear
-use Rattle.class.proofs.open.open as opens
+use Rattle.row.proofs.open.hear as hear
+use Rattle.row.proofs.open.open as opens
 
 -- `Walked.antt`'s `says`, where the contract asks nothing
 pub asks-nothing : {M : Type 1} {𝓤 : URA M} {H : Heap 𝓤} {A : Atoms 𝓤} {K : Type 0} {W : Given 𝓤 H A} {Γ : List (Item 𝓤)} → K → {P : SProp 𝓤} → Step K W Γ (prop P) Γ (prop (sep 𝓤 P (emp 𝓤)))

@@ -30,10 +30,10 @@ use Rattle.wire.specs.declared.kind.Message.{Message}
 use Rattle.wire.proofs.kind.Message as Q
 use Rattle.wire.proofs.kind.Message.Laws as Q′
 use Rattle.module.specs.declared.state.Module.{Module}
-use Rattle.class.specs.declared.progress.Progress.{Progress}
+use Rattle.row.specs.declared.progress.Progress.{Progress}
 use Rattle.class.specs.Turns.{turnOf, Ready, Took}
-use Rattle.class.proofs.progress.Progress as Y
-use Rattle.class.proofs.progress.Progress.Laws as Y′
+use Rattle.row.proofs.progress.Progress as Y
+use Rattle.row.proofs.progress.Progress.Laws as Y′
 use Rattle.class.proofs.Machine.{R, machT, machH}
 use Rattle.class.proofs.step.tend as tend
 

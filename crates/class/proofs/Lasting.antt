@@ -7,7 +7,7 @@ use Rattle.basis.proofs.Choice.{either}
 use Rattle.module.specs.declared.state.Module.{Module}
 use Rattle.module.specs.Module.{kindOf}
 use Rattle.device.proofs.Lasting.{same-identity, same-kind}
-use Rattle.class.specs.Row.{seatAt, shareAt}
+use Rattle.class.specs.Seat.{seatAt, shareAt}
 use Rattle.class.specs.Class.{ClassStep, Heard, seatStep, heardAt, heardFrom, classOf}
 
 -- seat by seat one identity and one kind

@@ -14,8 +14,8 @@ use Rattle.module.specs.declared.state.Module.{Module}
 use Rattle.device.specs.Run.{State, Said}
 use Rattle.device.proofs.Lent.{room-alike, room-kept}
 use Rattle.device.proofs.Replied.{replied}
-use Rattle.class.specs.declared.outcome.ClassOutcome.{ClassOutcome}
-use Rattle.class.specs.Row.{seatAt, shareAt, withShare}
+use Rattle.row.specs.declared.outcome.ClassOutcome.{ClassOutcome}
+use Rattle.class.specs.Seat.{seatAt, shareAt, withShare}
 use Rattle.class.specs.Class.{ClassStep, refusedBy, servedAt, Heard, heardAt, heardFrom, broadcastTo, classOf}
 
 -- what a call comes to, its room aside

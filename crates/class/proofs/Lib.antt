@@ -1,11 +1,7 @@
 -- Laws of a row.
-pub mod Fit
 pub mod Shared
 pub mod Runs
-pub mod Named
-pub mod Readings
 pub mod Rounds
-pub mod Noticed
 pub mod Again
 pub mod Element
 pub mod Machine

@@ -23,15 +23,15 @@ use Rattle.wire.proofs.kind.Message.Laws as Q′
 use Rattle.module.specs.declared.state.Module.{Module}
 use Rattle.module.proofs.state.Module as MO
 use Rattle.module.proofs.state.Module.Laws as MO′
-use Rattle.class.specs.declared.progress.Progress.{Progress}
-use Rattle.class.specs.declared.progress.ClassAnswer.{ClassAnswer}
+use Rattle.row.specs.declared.progress.Progress.{Progress}
+use Rattle.row.specs.declared.progress.ClassAnswer.{ClassAnswer}
 use Rattle.class.specs.declared.turn.Tended.{Tended}
-use Rattle.class.proofs.progress.ClassAnswer as Z
-use Rattle.class.proofs.progress.ClassAnswer.Laws as Z′
+use Rattle.row.proofs.progress.ClassAnswer as Z
+use Rattle.row.proofs.progress.ClassAnswer.Laws as Z′
 use Rattle.class.proofs.turn.Tended as N
 use Rattle.class.proofs.turn.Tended.Laws as N′
-use Rattle.class.proofs.progress.Progress as Y
-use Rattle.class.proofs.progress.Progress.Laws as Y′
+use Rattle.row.proofs.progress.Progress as Y
+use Rattle.row.proofs.progress.Progress.Laws as Y′
 
 abbrev pub R : RattleType
 R = MO.the-row

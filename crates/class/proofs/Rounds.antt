@@ -22,15 +22,17 @@ use Rattle.results.specs.Number.{numberOf}
 use Rattle.module.specs.declared.state.Module.{Module}
 use Rattle.device.specs.Step.{Step, stepBy}
 use Rattle.device.proofs.Counted.{most-read}
-use Rattle.class.specs.declared.outcome.ClassOutcome.{ClassOutcome}
-use Rattle.class.specs.declared.progress.ClassAnswer.{ClassAnswer}
-use Rattle.class.specs.declared.progress.Progress.{Progress}
-use Rattle.class.specs.Row.{noName, nobody, seatAt, nameAt, isRowFit, shareAt, withShare, seatNamed, isDoubled, namedIn, heardIn}
+use Rattle.row.specs.declared.outcome.ClassOutcome.{ClassOutcome}
+use Rattle.row.specs.declared.progress.ClassAnswer.{ClassAnswer}
+use Rattle.row.specs.declared.progress.Progress.{Progress}
+use Rattle.row.specs.Row.{noName, isRowFit, seatNamed, isDoubled, namedIn, heardIn}
+use Rattle.class.specs.Seat.{nobody, seatAt, nameAt, shareAt, withShare}
 use Rattle.class.specs.Class.{ClassStep, refusedBy, servedAt, addressedTo, Heard, heardAt, heardFrom, offeredTo, broadcastTo, classOf, ClassComes}
-use Rattle.class.specs.Turns.{silent, ended, begun, opened, allNamed, noticed, nameIn, secondRound, addressed, scopeOf, byScope, settled, joined, offered, noted}
-use Rattle.class.proofs.Fit.{Fit, fit, share-there}
-use Rattle.class.proofs.Named.{same-address, named-agrees, doubled-agrees, found}
-use Rattle.class.proofs.Readings.{says-to, only-unheard, not-direct, not-cleanup, read-alike, not-summed, some-kind}
+use Rattle.row.specs.Round.{silent, ended, begun, opened, allNamed, noticed, nameIn, secondRound, addressed, scopeOf, byScope, settled}
+use Rattle.class.specs.Turns.{joined, offered, noted}
+use Rattle.row.proofs.Fit.{Fit, fit, share-there}
+use Rattle.row.proofs.Named.{same-address, named-agrees, doubled-agrees, found}
+use Rattle.row.proofs.Readings.{says-to, only-unheard, not-direct, not-cleanup, read-alike, not-summed, some-kind}
 use Rattle.class.proofs.Runs.{Goes, ends, goes-on}
 
 -- any seat that acted makes it done

@@ -5,8 +5,8 @@ use native.Mathlib.Omega.{arith}
 use lib.ListN.{length, set}
 use Rattle.wire.specs.declared.kind.Message.{Message}
 use Rattle.module.specs.declared.state.Module.{Module}
-use Rattle.class.specs.declared.progress.Progress.{Progress}
-use Rattle.class.specs.Row.{seatAt}
+use Rattle.row.specs.declared.progress.Progress.{Progress}
+use Rattle.class.specs.Seat.{seatAt}
 use Rattle.class.specs.Class.{ClassStep, ClassComes}
 use Rattle.class.specs.Turns.{Turn, turnOf, Ready}
 

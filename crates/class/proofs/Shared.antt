@@ -9,7 +9,7 @@ use Rattle.wire.specs.declared.kind.Message.{Message}
 use Rattle.module.specs.declared.state.Module.{Module}
 use Rattle.device.specs.declared.step.Answer.{Answer}
 use Rattle.device.specs.Step.{stepBy, Comes}
-use Rattle.class.specs.declared.progress.Progress.{Progress}
+use Rattle.row.specs.declared.progress.Progress.{Progress}
 use Rattle.class.specs.Turns.{served, serveTurn, Took}
 
 -- the bytes between two places

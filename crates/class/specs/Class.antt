@@ -12,10 +12,11 @@ use Rattle.results.specs.declared.Outcome.{Outcome}
 use Rattle.results.specs.Number.{numberOf}
 use Rattle.module.specs.declared.state.Module.{Module}
 use Rattle.device.specs.Step.{Step, stepOf}
-use Rattle.class.specs.declared.outcome.ClassOutcome.{ClassOutcome}
-use Rattle.class.specs.declared.progress.ClassAnswer.{ClassAnswer}
-use Rattle.class.specs.Number.{classNumberOf}
-use Rattle.class.specs.Row.{seatAt, nameAt, isRowFit, shareAt, withShare, seatNamed, isDoubled}
+use Rattle.row.specs.declared.outcome.ClassOutcome.{ClassOutcome}
+use Rattle.row.specs.declared.progress.ClassAnswer.{ClassAnswer}
+use Rattle.row.specs.Number.{classNumberOf}
+use Rattle.row.specs.Row.{isRowFit, seatNamed, isDoubled}
+use Rattle.class.specs.Seat.{seatAt, nameAt, shareAt, withShare}
 
 -- all that comes out of a call
 pub record ClassStep : Type 0 where

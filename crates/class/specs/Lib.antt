@@ -1,6 +1,5 @@
 -- One bench for a class.
-pub mod Number
-pub mod Row
+pub mod Seat
 pub mod Class
 pub mod Seats
 pub mod Turns

@@ -5,7 +5,7 @@ use lib.Dec.{ltb}
 use lib.ListN.{take, drop}
 use Rattle.basis.specs.Choice.{choose}
 use Rattle.module.specs.declared.state.Module.{Module}
-use Rattle.class.specs.declared.outcome.ClassOutcome.{ClassOutcome}
+use Rattle.row.specs.declared.outcome.ClassOutcome.{ClassOutcome}
 use Rattle.class.specs.declared.seats.SeatsAnswer.{SeatsAnswer}
 use Rattle.class.specs.Class.{ClassStep, refusedBy, classOf, ClassComes}
 

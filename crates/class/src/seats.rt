@@ -1,9 +1,9 @@
 // For whoever has the row by value, in the first places of an array: its promise says nothing of a lent row.
-use crate::outcome::ClassOutcome;
-use crate::progress::ClassAnswer;
-use crate::progress::silent;
 use crate::step::class_step;
 use module::state::Module;
+use row::outcome::ClassOutcome;
+use row::progress::ClassAnswer;
+use row::progress::silent;
 ghost use mathlib.Core.Path.{_≡_};
 ghost use Prim.Native.Nat.{_≤_};
 ghost use lib.ListN.{length};

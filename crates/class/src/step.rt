@@ -1,10 +1,10 @@
 // A message to the class.
-use crate::open::hear;
-use crate::open::open;
-use crate::progress::ClassAnswer;
-use crate::progress::Progress;
 use crate::turn::turn;
 use module::state::Module;
+use row::open::hear;
+use row::open::open;
+use row::progress::ClassAnswer;
+use row::progress::Progress;
 use wire::kind::Message;
 ghost use mathlib.Core.Path.{_≡_};
 ghost use lib.ListN.{length};

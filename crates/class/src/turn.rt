@@ -1,20 +1,19 @@
 // One seat's turn. What a seat is offered is the reading, and of link memory its own share.
-use crate::names::with_name;
-use crate::outcome::ClassOutcome;
-use crate::progress::ClassAnswer;
-use crate::progress::Progress;
-use crate::progress::ended;
-use crate::settle::settled;
 use device::step::serve;
 use module::state::Module;
 use results::Outcome;
 use results::number;
+use row::outcome::ClassOutcome;
+use row::progress::ClassAnswer;
+use row::progress::Progress;
+use row::progress::ended;
+use row::settle::settle;
 use wire::address::Address;
 use wire::kind::Message;
 ghost use mathlib.Core.Path.{_≡_};
 ghost use mathlib.Core.Bool.{true};
 ghost use Prim.Native.Nat.{_+_, _≤_, _<_};
-ghost use lib.ListN.{length};
+ghost use lib.ListN.{length, set};
 ghost use Rattle.class.specs.Turns.{noted, joined, offered, served, turnOf, serveTurn, Ready, Took};
 
 // The row's progress, and the module afterwards.
@@ -59,7 +58,16 @@ fn noted(t: Progress, a: Address) -> Progress
     if next < t.seats {
         return after;
     }
-    settled(after)
+    settle(after)
+}
+
+fn with_name(names: [Address; 16], seat: usize, a: Address) -> [Address; 16]
+    requires { ⌜ seat < 16 ⌝ }
+    ensures { λ r. ⌜ r ≡ set names seat a ⌝ }
+{
+    let mut noted = names;
+    noted[seat] = a;
+    noted
 }
 
 fn serve_seat(m: Module, t: Progress, heard: Message, links: &mut [u8], room: &mut [u8]) -> Tended

@@ -8,11 +8,11 @@ use borrow.Author.Tests.{le-leb, lt-ltb, le-ltb}
 use Rattle.basis.specs.Choice.{choose}
 use Rattle.basis.specs.Laid.{laid, laidIfFits}
 use Rattle.basis.proofs.Laid.{fits}
-use Rattle.class.specs.declared.outcome.ClassOutcome.{ClassOutcome}
-use Rattle.class.specs.declared.progress.ClassAnswer.{ClassAnswer}
-use Rattle.class.specs.Number.{classNumberOf}
+use Rattle.row.specs.declared.outcome.ClassOutcome.{ClassOutcome}
+use Rattle.row.specs.declared.progress.ClassAnswer.{ClassAnswer}
+use Rattle.row.specs.Number.{classNumberOf}
 use Rattle.class.specs.Class.{ClassStep, classOf}
-use Rattle.class.proofs.Fit.{crowded}
+use Rattle.row.proofs.Fit.{crowded}
 use Rattle.embed_class.specs.Row.{isRow, rowOf}
 use Rattle.image.specs.Returned.{Returns}
 use Rattle.embed_class.specs.ClassCall.{seated, classReturnedOf}

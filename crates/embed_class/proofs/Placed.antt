@@ -8,7 +8,7 @@ use lib.ListN.{length, take, drop, set}
 use lib.Seq.{take-at, drop-at, take-append-add, drop-append-add}
 use Rattle.module.specs.declared.state.Module.{Module}
 use Rattle.module.specs.Module.{kindOf}
-use Rattle.class.specs.Row.{seatAt}
+use Rattle.class.specs.Seat.{seatAt}
 use Rattle.image.specs.Image.{sizeOf, moduleOf, imageOf, heldIn, storedIfOwn}
 use Rattle.image.proofs.Sized.{size-of-image}
 use Rattle.image.proofs.Whole.{whole-module, image-is-one, its-image, own, held-there}

@@ -7,7 +7,7 @@ use borrow.Rule.Slice.PartMut.{midOf, putMid}
 use Rattle.wire.specs.declared.kind.Message.{Message}
 use Rattle.device.specs.declared.step.Answer.{Answer}
 use Rattle.device.specs.Step.{Step, stepBy, Comes}
-use Rattle.class.specs.declared.outcome.ClassOutcome.{ClassOutcome}
+use Rattle.row.specs.declared.outcome.ClassOutcome.{ClassOutcome}
 use Rattle.class.proofs.Shared.{between}
 use Rattle.image.specs.declared.held.Held.{Held}
 use Rattle.image.specs.Image.{sizeOf, heldIn, storedIfOwn}

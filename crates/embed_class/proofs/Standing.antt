@@ -11,12 +11,13 @@ use Rattle.module.specs.declared.state.Module.{Module}
 use Rattle.device.specs.Step.{Step, stepBy}
 use Rattle.device.proofs.Lasting.{identity-by, kind-by}
 use Rattle.device.proofs.Counted.{most-read}
-use Rattle.class.specs.declared.outcome.ClassOutcome.{ClassOutcome}
-use Rattle.class.specs.declared.progress.ClassAnswer.{ClassAnswer}
-use Rattle.class.specs.declared.progress.Progress.{Progress}
-use Rattle.class.specs.Row.{seatAt, shareAt, withShare}
+use Rattle.row.specs.declared.outcome.ClassOutcome.{ClassOutcome}
+use Rattle.row.specs.declared.progress.ClassAnswer.{ClassAnswer}
+use Rattle.row.specs.declared.progress.Progress.{Progress}
+use Rattle.class.specs.Seat.{seatAt, shareAt, withShare}
 use Rattle.class.specs.Class.{ClassStep}
-use Rattle.class.specs.Turns.{Turn, ended, offered, served, serveTurn, noteTurn, Ready}
+use Rattle.row.specs.Round.{ended}
+use Rattle.class.specs.Turns.{Turn, offered, served, serveTurn, noteTurn, Ready}
 use Rattle.class.proofs.Runs.{Runs, Next, next, over}
 use Rattle.image.specs.Image.{heldIn, storedIfOwn}
 use Rattle.embed_class.specs.Row.{imagesOf, imageIn, withImage}

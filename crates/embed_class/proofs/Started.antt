@@ -8,13 +8,14 @@ use lib.Seq.{getD-take}
 use Rattle.wire.specs.declared.address.Address.{Address}
 use Rattle.wire.specs.declared.kind.Message.{Message}
 use Rattle.module.specs.declared.state.Module.{Module}
-use Rattle.class.specs.declared.progress.Progress.{Progress}
-use Rattle.class.specs.Row.{noName, nameAt, heardIn}
+use Rattle.row.specs.declared.progress.Progress.{Progress}
+use Rattle.row.specs.Row.{noName, heardIn}
+use Rattle.class.specs.Seat.{nameAt}
 use Rattle.class.specs.Class.{ClassStep, classOf}
-use Rattle.class.specs.Turns.{nameIn, noticed}
+use Rattle.row.specs.Round.{nameIn, noticed}
 use Rattle.class.proofs.Runs.{Runs}
 use Rattle.class.proofs.Rounds.{notices}
-use Rattle.class.proofs.Noticed.{due}
+use Rattle.row.proofs.Noticed.{due}
 use Rattle.embed_class.specs.Row.{rowOf, imagesOf, namesOf}
 use Rattle.embed_class.proofs.Placed.{row-back}
 use Rattle.embed_class.proofs.Standing.{Standing}

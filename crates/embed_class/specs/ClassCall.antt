@@ -6,7 +6,7 @@ use lib.Dec.{leb, ltb}
 use lib.ListN.{length}
 use Rattle.basis.specs.Choice.{choose}
 use Rattle.basis.specs.Laid.{laid}
-use Rattle.class.specs.Number.{classNumberOf}
+use Rattle.row.specs.Number.{classNumberOf}
 use Rattle.class.specs.Class.{ClassStep, classOf}
 use Rattle.embed_class.specs.Row.{isRow, rowOf, imagesOf}
 use Rattle.image.specs.Returned.{Returned}

@@ -8,10 +8,10 @@ use Rattle.basis.specs.Choice.{choose}
 use Rattle.wire.specs.declared.kind.Message.{Message}
 use Rattle.results.specs.declared.Outcome.{Outcome}
 use Rattle.device.specs.Step.{Step, stepBy}
-use Rattle.class.specs.declared.outcome.ClassOutcome.{ClassOutcome}
-use Rattle.class.specs.declared.progress.ClassAnswer.{ClassAnswer}
-use Rattle.class.specs.Number.{classNumberOf}
-use Rattle.class.specs.Row.{shareAt, withShare}
+use Rattle.row.specs.declared.outcome.ClassOutcome.{ClassOutcome}
+use Rattle.row.specs.declared.progress.ClassAnswer.{ClassAnswer}
+use Rattle.row.specs.Number.{classNumberOf}
+use Rattle.class.specs.Seat.{shareAt, withShare}
 use Rattle.class.specs.Class.{ClassStep, ClassComes}
 use Rattle.image.specs.Image.{heldIn, storedIfOwn}
 use Rattle.embed_class.specs.Row.{imageIn, withImage, imagesOf}

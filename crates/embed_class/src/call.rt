@@ -1,9 +1,9 @@
 // One message to the class whose modules the images hold.
-use crate::row::is_row;
 use crate::serve::serve_row;
-use class::outcome::ClassOutcome;
-use class::outcome::class_number;
+use crate::strip::is_row;
 use image::report::tell;
+use row::outcome::ClassOutcome;
+use row::outcome::class_number;
 ghost use Rattle.image.specs.Returned.{Returns};
 ghost use Rattle.embed_class.specs.ClassCall.{classReturnedOf};
 

@@ -1,17 +1,17 @@
 // A message to the row: whom it is for is decided by addresses alone, and only who is served is read out of its image.
-use crate::row::names_in;
-use crate::row::place_of;
-use crate::row::tidy_row;
-use class::open::hear;
-use class::outcome::ClassOutcome;
-use class::outcome::class_number;
-use class::progress::ClassAnswer;
-use class::settle::noticed;
+use crate::strip::names_in;
+use crate::strip::place_of;
+use crate::strip::tidy_row;
 use device::step::serve;
 use image::held::held_in;
 use image::held::size_of;
 use image::store::store;
 use results::Outcome;
+use row::open::hear;
+use row::outcome::ClassOutcome;
+use row::outcome::class_number;
+use row::progress::ClassAnswer;
+use row::settle::noticed;
 use wire::kind::Message;
 ghost use mathlib.Core.Path.{_≡_};
 ghost use mathlib.Core.Bool.{true};

@@ -12,8 +12,8 @@ use Rattle.device.specs.Step.{stepOf}
 use Rattle.device.specs.Run.{Call, Said}
 use Rattle.device.proofs.Lent.{room-alike}
 use Rattle.device.proofs.Replied.{replied}
-use Rattle.class.specs.declared.outcome.ClassOutcome.{ClassOutcome}
-use Rattle.class.specs.Number.{classNumberOf}
+use Rattle.row.specs.declared.outcome.ClassOutcome.{ClassOutcome}
+use Rattle.row.specs.Number.{classNumberOf}
 use Rattle.class.specs.Class.{ClassStep}
 use Rattle.class.specs.Seats.{seatsOf}
 use Rattle.class.proofs.Lent.{ClassSaid, class-alike, class-replied}

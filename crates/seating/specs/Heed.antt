@@ -7,7 +7,7 @@ use Rattle.basis.specs.Choice.{choose}
 use Rattle.results.specs.Number.{numberOf}
 use Rattle.module.specs.declared.state.Module.{Module}
 use Rattle.device.specs.Step.{Step, stepOf}
-use Rattle.class.specs.Number.{classNumberOf}
+use Rattle.row.specs.Number.{classNumberOf}
 use Rattle.class.specs.Class.{ClassStep}
 use Rattle.class.specs.Seats.{seatsOf}
 use Rattle.seating.specs.declared.heed.Seating.{Seating}

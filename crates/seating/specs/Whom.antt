@@ -11,7 +11,7 @@ use Rattle.wire.specs.Bytes.{toOf}
 use Rattle.wire.specs.Kinds.{heardAs}
 use Rattle.module.specs.declared.state.Load.{Load}
 use Rattle.module.specs.declared.state.Module.{Module}
-use Rattle.class.specs.Row.{seatNamed}
+use Rattle.row.specs.Row.{seatNamed}
 
 -- what stands past the last place
 abbrev pub blank : Module

@@ -1,10 +1,10 @@
 // One message to whoever sits there.
 use crate::whom::whom;
-use class::outcome::class_number;
 use class::seats::class_seats;
 use device::step::step;
 use module::state::Module;
 use results::number;
+use row::outcome::class_number;
 ghost use Rattle.seating.specs.Heed.{heedOf, aloneOf, classHeed, Heeds};
 
 // A module alone has the first place; a class has the first `count`.

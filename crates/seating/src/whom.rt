@@ -5,7 +5,7 @@ use wire::kind::MessageKind;
 use wire::read::heard_as;
 ghost use mathlib.Core.Path.{_≡_};
 ghost use Prim.Native.Nat.{_≤_};
-ghost use Rattle.class.specs.Row.{seatNamed};
+ghost use Rattle.row.specs.Row.{seatNamed};
 ghost use Rattle.seating.specs.Whom.{whoAt, seatOf, byKind, toWhom};
 
 const EVERYBODY: usize = 16;

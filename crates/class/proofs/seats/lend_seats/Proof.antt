@@ -55,12 +55,12 @@ use denote.Exit.{yes}
 use Rattle.module.specs.declared.state.Module.{Module}
 use Rattle.module.proofs.state.Module as K
 use Rattle.module.proofs.state.Module.Laws as K′
-use Rattle.class.specs.declared.progress.ClassAnswer.{ClassAnswer}
+use Rattle.row.specs.declared.progress.ClassAnswer.{ClassAnswer}
 use Rattle.class.specs.declared.seats.SeatsAnswer.{SeatsAnswer}
 use Rattle.class.specs.Class.{classOf, ClassComes}
 use Rattle.class.specs.Seats.{firstOf, SeatsCome}
-use Rattle.class.proofs.progress.ClassAnswer as Y
-use Rattle.class.proofs.progress.ClassAnswer.Laws as Y′
+use Rattle.row.proofs.progress.ClassAnswer as Y
+use Rattle.row.proofs.progress.ClassAnswer.Laws as Y′
 use Rattle.class.proofs.seats.SeatsAnswer as Z
 use Rattle.class.proofs.seats.SeatsAnswer.Laws as Z′
 use Rattle.class.proofs.Machine.{R, machA, tells-machA, typed-answer}

@@ -51,14 +51,16 @@ use Rattle.wire.specs.declared.kind.Message.{Message}
 use Rattle.wire.proofs.kind.Message as Q
 use Rattle.wire.proofs.kind.Message.Laws as Q′
 use Rattle.module.specs.declared.state.Module.{Module}
-use Rattle.class.specs.declared.progress.Progress.{Progress}
-use Rattle.class.specs.Row.{nobody, seatAt, heardIn}
+use Rattle.row.specs.declared.progress.Progress.{Progress}
+use Rattle.row.specs.Row.{heardIn}
+use Rattle.class.specs.Seat.{nobody, seatAt}
 use Rattle.class.specs.Class.{ClassStep, classOf, ClassComes}
-use Rattle.class.specs.Turns.{opened, turnOf, Ready, Took}
-use Rattle.class.proofs.progress.Progress as Y
-use Rattle.class.proofs.progress.Progress.Laws as Y′
-use Rattle.class.proofs.progress.ClassAnswer as Z
-use Rattle.class.proofs.progress.ClassAnswer.Laws as Z′
+use Rattle.row.specs.Round.{opened}
+use Rattle.class.specs.Turns.{turnOf, Ready, Took}
+use Rattle.row.proofs.progress.Progress as Y
+use Rattle.row.proofs.progress.Progress.Laws as Y′
+use Rattle.row.proofs.progress.ClassAnswer as Z
+use Rattle.row.proofs.progress.ClassAnswer.Laws as Z′
 use Rattle.class.proofs.Again.{LentAgain, lends-at, back-at}
 use Rattle.class.proofs.Element.{elem-at, LentElem, lends-elem, elem-returns}
 use Rattle.class.proofs.Machine.{R, machT, machA, machH, tells-machT, tells-machH, fields-of, is-answer, bytes-fit, place-at, typed-progress, typed-message, typed-answer}
@@ -66,12 +68,12 @@ use Rattle.class.proofs.Runs.{Runs, Next, next, over}
 use Rattle.class.proofs.Rounds.{opens}
 use Rattle.class.proofs.AskTend.{Tend, to-tend, goes, Got, answered}
 use Rattle.class.proofs.AskOpen.{Hear, Open, to-hear, goes-hear, GotHeard, heard-so, to-open, goes-open, GotOpened, opened-so}
-use Rattle.class.proofs.open.hear.Symbol as hear-def
-use Rattle.class.proofs.open.hear.Symbol.{name as #hear}
-use Rattle.class.proofs.open.hear.Met as hear-thm
-use Rattle.class.proofs.open.open.Symbol as open-def
-use Rattle.class.proofs.open.open.Symbol.{name as #open}
-use Rattle.class.proofs.open.open.Met as open-thm
+use Rattle.row.proofs.open.hear.Symbol as hear-def
+use Rattle.row.proofs.open.hear.Symbol.{name as #hear}
+use Rattle.row.proofs.open.hear.Met as hear-thm
+use Rattle.row.proofs.open.open.Symbol as open-def
+use Rattle.row.proofs.open.open.Symbol.{name as #open}
+use Rattle.row.proofs.open.open.Met as open-thm
 use Rattle.class.proofs.step.tend.Symbol as tend-def
 use Rattle.class.proofs.step.tend.Symbol.{name as #tend}
 use Rattle.class.proofs.step.tend.Met as tend-thm
@@ -386,6 +388,6 @@ class-step-spec 𝓤 H 𝓜 𝓖 𝓡 =
     entered 𝓤 H (tripleOf 𝓤 H (𝓖 .A) class-step.signature (class-step.spec 𝓤 H (𝓖 .A) (𝓜 .mem) (𝓡 .run)))
     (tables 𝓤 H 𝓜 𝓡 code.env .C) (tables 𝓤 H 𝓜 𝓡 code.env .Λ) #class-step code.function (code.unfolded 𝓤 H 𝓜 𝓡)
     (class-step-meets 𝓤 H (𝓖 .A) (givenOf 𝓤 H 𝓜 𝓖) (𝓜 .mem) (𝓡 .run) (tablesOf 𝓤 H 𝓜 (tables 𝓤 H 𝓜 𝓡 code.env))
-    (cited 𝓤 H (Hear 𝓤 H (𝓖 .A) (𝓜 .mem) (𝓡 .run)) 𝓜 𝓡 code.env #hear hear-def.routine code.calls-class·open·hear (hear-thm.met 𝓤 H 𝓜 𝓖 𝓡))
-    (cited 𝓤 H (Open 𝓤 H (𝓖 .A) (𝓜 .mem) (𝓡 .run)) 𝓜 𝓡 code.env #open open-def.routine code.calls-class·open·open (open-thm.met 𝓤 H 𝓜 𝓖 𝓡))
+    (cited 𝓤 H (Hear 𝓤 H (𝓖 .A) (𝓜 .mem) (𝓡 .run)) 𝓜 𝓡 code.env #hear hear-def.routine code.calls-row·open·hear (hear-thm.met 𝓤 H 𝓜 𝓖 𝓡))
+    (cited 𝓤 H (Open 𝓤 H (𝓖 .A) (𝓜 .mem) (𝓡 .run)) 𝓜 𝓡 code.env #open open-def.routine code.calls-row·open·open (open-thm.met 𝓤 H 𝓜 𝓖 𝓡))
     (cited 𝓤 H (Tend 𝓤 H (𝓖 .A) (𝓜 .mem) (𝓡 .run)) 𝓜 𝓡 code.env #tend tend-def.routine code.calls-class·step·tend (tend-thm.met 𝓤 H 𝓜 𝓖 𝓡)))

@@ -45,11 +45,11 @@ use Rattle.wire.proofs.kind.Message.Laws as Q′
 use Rattle.module.specs.declared.state.Module.{Module}
 use Rattle.module.proofs.state.Module as T
 use Rattle.module.proofs.state.Module.Laws as T′
-use Rattle.class.specs.declared.progress.Progress.{Progress}
+use Rattle.row.specs.declared.progress.Progress.{Progress}
 use Rattle.class.specs.declared.turn.Tended.{Tended}
 use Rattle.class.specs.Turns.{Ready}
-use Rattle.class.proofs.progress.Progress as Y
-use Rattle.class.proofs.progress.Progress.Laws as Y′
+use Rattle.row.proofs.progress.Progress as Y
+use Rattle.row.proofs.progress.Progress.Laws as Y′
 use Rattle.class.proofs.turn.Tended as N
 use Rattle.class.proofs.turn.Tended.Laws as N′
 use Rattle.class.proofs.Machine.{R, mach, machT, machH, typed-module, typed-progress, typed-message, typed-tended, tells-mach, tells-machT, tells-machH, tells-machN, parts, is-progress, is-next}

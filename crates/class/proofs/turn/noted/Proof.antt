@@ -1,3 +1,7 @@
+use mathlib.Core.Path.{_≡_}
+use mathlib.Core.Bool.{false}
+use native.Mathlib.Omega.{arith}
+use lib.Dec.{ltb}
 use borrow.Author.Needs.{needs}
 use borrow.Author.Tests.{lt-ltb, le-ltb}
 use Rattle.basis.specs.Choice.{choose}
@@ -10,7 +14,11 @@ goes-on c = rw (lt-ltb _ _ (c .if1 .taken), c .before .before .before .before .w
 
 last : tie.Need-returns-2
 unfolding choose
-last c = rw (le-ltb _ _ (c .before .if1 .left)) (rw (c .before .before .before .before .before .with-name .ensures) at (c .settled .ensures))
+last c =
+    let named = c .before .before .before .before .before in
+    let t = named .before .before .before .args .t in
+    let few : ltb 16 (t .seats) ≡ false = le-ltb 16 (t .seats) (omega arith) in
+    rw (le-ltb _ _ (c .before .if1 .left)) (rw (named .with-name .ensures, few) at (c .settle .ensures))
 
 pub noted-spec : {M : Type 1} → statement M
 noted-spec =

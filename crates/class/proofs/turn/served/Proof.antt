@@ -2,7 +2,7 @@ use mathlib.Core.Path.{_≡_}
 use borrow.Author.Needs.{needs}
 use Rattle.basis.proofs.Choice.{by}
 use Rattle.basis.proofs.Tests.{clash}
-use Rattle.class.specs.declared.progress.Progress.{Progress}
+use Rattle.row.specs.declared.progress.Progress.{Progress}
 use Rattle.class.proofs.turn.served.Statement.{statement}
 use Rattle.class.proofs.turn.served.Tie as tie
 

@@ -11,7 +11,7 @@ use Rattle.basis.proofs.First.{none, here, later}
 use Rattle.wire.specs.declared.address.Address.{Address}
 use Rattle.wire.specs.Bytes.{equals}
 use Rattle.module.specs.declared.state.Module.{Module}
-use Rattle.class.specs.Row.{seatNamed}
+use Rattle.row.specs.Row.{seatNamed}
 use Rattle.seating.specs.Whom.{whoAt}
 use Rattle.seating.proofs.whom.seat_named.Statement.{statement}
 use Rattle.seating.proofs.whom.seat_named.Tie as tie

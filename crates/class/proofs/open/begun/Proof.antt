@@ -1,6 +1,0 @@
-use borrow.Author.Needs.{needs}
-use Rattle.class.proofs.open.begun.Statement.{statement}
-use Rattle.class.proofs.open.begun.Tie as tie
-
-pub begun-spec : {M : Type 1} → statement M
-begun-spec = tie.close (tie.spec (λ c κs. search needs) (λ c. rw (c .silent .ensures)))

@@ -1,13 +1,14 @@
--- Where two rows of addresses agree, the same seats are found in them.
+-- Where two rows of addresses agree, the same seats are found in them. The low byte tells addresses apart.
 use Prim.Native.Nat.{ℕ, zero, suc, _+_, _<_}
 use mathlib.Core.Path.{_≡_, refl, ap, sym, _∙_}
+use mathlib.Core.Logic.{_≢_}
 use mathlib.Core.Bool.{Bool, true, false, _&&_}
 use native.Mathlib.Omega.{arith}
 use lib.Dec.{eqb, ltb}
-use borrow.Author.Tests.{eqb-true, eq-eqb}
+use borrow.Author.Tests.{eqb-true, eq-eqb, ne-eqb, le-ltb}
 use Rattle.basis.specs.First.{firstFrom}
 use Rattle.basis.proofs.First.{none, here, later, Told, at, nowhere, told}
-use Rattle.basis.proofs.Tests.{both}
+use Rattle.basis.proofs.Tests.{both, clash}
 use Rattle.wire.specs.declared.address.Address.{Address}
 use Rattle.wire.specs.Bytes.{equals}
 use Rattle.row.specs.Row.{seatNamed, isTaken, isDoubled}
@@ -50,3 +51,20 @@ found v n a inside = go (seatNamed v n a) inside (told (λ (i : ℕ). equals a (
     go : (k : ℕ) → k < n → Told (λ (i : ℕ). equals a (v i)) n 0 k → equals a (v k) ≡ true
     go k h (at x) = x .holds
     go k h (nowhere x) = absurd (omega (arith, h, x .behind))
+
+-- an address with another low byte is another one
+pub low-differs : (a b : Address) → a .low ≢ b .low → equals a b ≡ false
+low-differs a b h = rw (ne-eqb (a .low) (b .low) h) (last-fails (eqb (a .high) (b .high)) (eqb (a .middle) (b .middle)))
+  where
+    last-fails : (x y : Bool) → x && y && false ≡ false
+    last-fails true true = refl
+    last-fails true false = refl
+    last-fails false y = refl
+
+-- where no seat before it has a seat's low byte, none has its name
+pub not-taken : (v : ℕ → Address) (i : ℕ) → ((j : ℕ) → j < i → v i .low ≢ v j .low) → isTaken v i ≡ false
+not-taken v i new = go (seatNamed v i (v i)) (told (λ (j : ℕ). equals (v i) (v j)) i 0)
+  where
+    go : (k : ℕ) → Told (λ (j : ℕ). equals (v i) (v j)) i 0 k → ltb k i ≡ false
+    go k (at x) = clash (x .holds) (low-differs (v i) (v k) (new k (omega (arith, x .inside))))
+    go k (nowhere x) = le-ltb k i (omega (arith, x .behind))

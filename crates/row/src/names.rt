@@ -1,7 +1,7 @@
 // The addresses of the seats, as far as they are noted.
 use wire::address::Address;
 ghost use mathlib.Core.Path.{_≡_};
-ghost use Prim.Native.Nat.{_≤_};
+ghost use Prim.Native.Nat.{_≤_, _<_};
 ghost use Rattle.wire.specs.Bytes.{equals};
 ghost use Rattle.row.specs.Row.{seatNamed, isDoubled};
 ghost use Rattle.row.specs.Round.{nameIn};
@@ -33,19 +33,32 @@ fn is_same(a: Address, b: Address) -> bool
     a.equals(b)
 }
 
-// Two of the first n seats have one address: result 9.
+// Two of the first n seats have one address: result 9. Addresses are compared only where their low byte was met before.
 pub(crate) fn is_doubled(names: [Address; 16], n: usize) -> bool
     requires { ⌜ n ≤ 16 ⌝ }
     ensures { λ r. ⌜ r ≡ isDoubled (nameIn names) n ⌝ }
 {
+    let mut met = [false; 256];
     let mut i: usize = 0;
     loop {
         if i == n {
             break false;
+        }
+        let low = wide(names[i].low);
+        if !met[low] {
+            met[low] = true;
+            i += 1;
+            continue;
         }
         if seat_named(names, i, names[i]) < i {
             break true;
         }
         i += 1;
     }
+}
+
+fn wide(x: u8) -> usize
+    ensures { λ r. ⌜ (r ≡ x) × (r < 256) ⌝ }
+{
+    x as usize
 }

@@ -1,6 +1,6 @@
 //! Examples of a class: a message to a row of modules, served by the library and by the second reading.
 
-use crate::example::{blank, laid, standard, ENOUGH, LINKS};
+use crate::example::{blank, laid, standard, ENOUGH, LINKED, LINKS};
 use crate::left::Left;
 use crate::library;
 use crate::paper::{Address, Identity, Module, ModuleKind, Outcome, BENCH};
@@ -27,6 +27,14 @@ pub fn cleanup(from: Address, seat: usize, command1: u8, group: u8) -> Vec<u8> {
 
 pub fn broadcast(from: Address, command1: u8, group: u8) -> Vec<u8> {
     standard(from, [0x00, 0x00, group], 0xCF, [command1, 0x00])
+}
+
+/// Get Database with Data 1 = 07 and no limit, as in P13.
+pub fn get(seat: usize, name: [u8; 2]) -> Vec<u8> {
+    let mut data = [0x00; 14];
+    data[0] = 0x07;
+    data[2..4].copy_from_slice(&name);
+    extended(LINKED, seat, [0x2F, 0x00], data)
 }
 
 /// A reply of one standard message from a seat.

@@ -1,7 +1,7 @@
 //! Request 5: rows, shares and groups of a class. Every expected byte was typed from the papers.
 
 use dreelish_tests::class_example::{
-    address, broadcast, cleanup, direct, extended, reply, ClassExample,
+    address, broadcast, cleanup, direct, extended, get, reply, ClassExample,
 };
 use dreelish_tests::example::{lamp, sockets, standard, LINKED, LINKS, STRANGER};
 use dreelish_tests::paper::ModuleKind::{Dimmer, Outlet};
@@ -13,14 +13,6 @@ fn write(seat: usize, name: [u8; 2], data14: u8) -> Vec<u8> {
     let data = [
         0x01, 0x02, high, low, 0x08, 0xE2, 0x01, 0x08, 0xB6, 0xEA, 0x00, 0x1B, 0x01, data14,
     ];
-    extended(LINKED, seat, [0x2F, 0x00], data)
-}
-
-/// Get Database with Data 1 = 07 and no limit, as in P13.
-fn get(seat: usize, name: [u8; 2]) -> Vec<u8> {
-    let mut data = [0x00; 14];
-    data[0] = 0x07;
-    data[2..4].copy_from_slice(&name);
     extended(LINKED, seat, [0x2F, 0x00], data)
 }
 

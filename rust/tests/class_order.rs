@@ -3,7 +3,7 @@
 //! Each test sends what two numbers apply to, and then the same with the cause of the first taken away.
 
 use dreelish_tests::class_example::{
-    address, broadcast, cleanup, direct, extended, reply, ClassExample,
+    address, broadcast, cleanup, direct, extended, get, reply, ClassExample,
 };
 use dreelish_tests::example::{LINKED, STRANGER};
 use dreelish_tests::paper::Address;
@@ -22,14 +22,6 @@ fn set_flag(from: Address, seat: usize, data14: u8) -> Vec<u8> {
     let mut data = [0x00; 14];
     data[13] = data14;
     extended(from, seat, [0x20, 0x05], data)
-}
-
-/// Get Database with Data 1 = 07 and no limit, as in P13.
-fn get(seat: usize, name: [u8; 2]) -> Vec<u8> {
-    let mut data = [0x00; 14];
-    data[0] = 0x07;
-    data[2..4].copy_from_slice(&name);
-    extended(LINKED, seat, [0x2F, 0x00], data)
 }
 
 /// A message of another type, or one marked as extended that must not be.

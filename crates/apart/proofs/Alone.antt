@@ -221,6 +221,7 @@ module _ (c : Class) (sits : Seated c) (x : Call) where
         bytes = came .bytes;
         names = same-name;
         kinds = λ i h. ap (λ (m : Module). kindOf (m .load)) (came .seats i h) ∙ same-kind (alone c i .device) (alone c i .links) (x .message) (x .room);
+        answers = λ i h s. ap (λ (a : Address). isFor a s) (same-name i h);
         seated = stays-seated;
       }
 

@@ -15,8 +15,8 @@ use Rattle.class.specs.Seat.{nameAt}
 use Rattle.row.proofs.Fit.{share-there}
 use Rattle.row.proofs.Named.{doubled-agrees}
 use Rattle.apart.specs.Lesson.{Class, Seated, tell, leaves, afterAll, width, alone, isFor}
-use Rattle.apart.specs.Alone.{Answers}
-use Rattle.apart.specs.Heart.{contributes, Gives, answer, part, none, ours, others, Parted, AlwaysParted, RunsAlone, SameRow, QuietPupil}
+use Rattle.apart.specs.Alone.{Answers, Stays}
+use Rattle.apart.specs.Heart.{contributes, Gives, answer, part, none, ours, others, Parted, AlwaysParted, RunsAlone, SameRow, QuietPupil, RowAlwaysStays}
 use Rattle.apart.proofs.Alone.{taken-alone, row-stays, left-alone, answered-alone}
 use Rattle.apart.proofs.Round.{heeded}
 
@@ -95,3 +95,24 @@ quiet-pupil c d sits same i h alike xs ys kept steps theirs m k =
     let one = runs-alone c sits i h xs kept steps m in
     let other = runs-alone d (seated-too c d sits same) i (subst (λ (n : ℕ). i < n) (sym (same .seats)) h) ys kept theirs k in
     (sym (one .0) ∙ ap (λ (s : State). runOf s kept) alike ∙ other .0, sym (one .1) ∙ ap (λ (s : State). endOf s kept) alike ∙ other .1)
+
+-- what stays from one class to the next, and from there on, stays
+on : (c d e : Class) → Stays c d → Stays d e → Stays c e
+on c d e p q =
+    let there : (i : ℕ) → i < length (c .row) → i < length (d .row) = λ i h. subst (λ (k : ℕ). i < k) (sym (p .seats)) h in
+    record {
+      seats = q .seats ∙ p .seats;
+      bytes = q .bytes ∙ p .bytes;
+      names = λ i h. q .names i (there i h) ∙ p .names i h;
+      kinds = λ i h. q .kinds i (there i h) ∙ p .kinds i h;
+      answers = λ i h s. q .answers i (there i h) s ∙ p .answers i h s;
+      seated = q .seated;
+    }
+
+pub row-always-stays : RowAlwaysStays
+unfolding afterAll
+row-always-stays c sits [] =
+    record { seats = refl; bytes = refl; names = λ i h. refl; kinds = λ i h. refl; answers = λ i h s. refl; seated = sits }
+row-always-stays c sits (x ∷ xs) =
+    let first = row-stays c sits x in
+    on c (leaves (tell c x)) (afterAll c (x ∷ xs)) first (row-always-stays (leaves (tell c x)) (first .seated) xs)

@@ -2,7 +2,7 @@
 use Prim.Native.Nat.{ℕ, _<_}
 use mathlib.Core.Path.{_≡_}
 use mathlib.Core.Bool.{true, false}
-use mathlib.Core.List.{[]}
+use mathlib.Core.List.{List, []}
 use lib.Dec.{eqb}
 use lib.ListN.{length}
 use Rattle.basis.specs.Choice.{choose}
@@ -58,6 +58,8 @@ pub record Stays (c d : Class) : Type 0 where
   pub bytes : length (d .links) ≡ length (c .links)
   pub names : (i : ℕ) → i < length (c .row) → nameAt (d .row) i ≡ nameAt (c .row) i
   pub kinds : (i : ℕ) → i < length (c .row) → kindOf (seatAt (d .row) i .load) ≡ kindOf (seatAt (c .row) i .load)
+  -- and so does whom a message is for
+  pub answers : (i : ℕ) → i < length (c .row) → (s : List ℕ) → isFor (nameAt (d .row) i) s ≡ isFor (nameAt (c .row) i) s
   pub seated : Seated d
 
 abbrev pub RowStays : Type 0

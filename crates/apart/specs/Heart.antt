@@ -10,7 +10,7 @@ use Rattle.device.specs.Run.{Call, leftBy, runOf, endOf}
 use Rattle.class.specs.Seat.{nameAt}
 use Rattle.class.specs.Class.{Heard, seatStep, heardFrom}
 use Rattle.apart.specs.Lesson.{Class, Seated, tell, leaves, afterAll, width, alone, isFor}
-use Rattle.apart.specs.Alone.{Answers}
+use Rattle.apart.specs.Alone.{Answers, Stays}
 
 -- what seat i contributes to a broadcast: its step where the broadcast reaches it
 abbrev pub contributes : Class → Call → ℕ → Step
@@ -63,3 +63,7 @@ QuietPupil =
     (c d : Class) → Seated c → SameRow c d → (i : ℕ) → i < length (c .row) → alone c i ≡ alone d i →
     (xs ys kept : List Call) (steps others : List Step) → Meant i c xs kept steps → Meant i d ys kept others →
     (steps ≡ others) × (alone (afterAll c xs) i ≡ alone (afterAll d ys) i)
+
+-- addresses, kinds and whom a message is for stay, message after message
+abbrev pub RowAlwaysStays : Type 0
+RowAlwaysStays = (c : Class) → Seated c → (xs : List Call) → Stays c (afterAll c xs)

@@ -4,9 +4,7 @@ use module::state::Module;
 use row::outcome::ClassOutcome;
 use row::progress::ClassAnswer;
 use row::progress::silent;
-ghost use mathlib.Core.Path.{_≡_};
 ghost use Prim.Native.Nat.{_≤_};
-ghost use lib.ListN.{length};
 ghost use Rattle.class.specs.Seats.{seatsOf, SeatsCome, firstOf};
 
 pub struct SeatsAnswer {

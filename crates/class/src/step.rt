@@ -6,7 +6,6 @@ use row::open::open;
 use row::progress::ClassAnswer;
 use row::progress::Progress;
 use wire::kind::Message;
-ghost use mathlib.Core.Path.{_≡_};
 ghost use lib.ListN.{length};
 ghost use Rattle.class.specs.Turns.{turnOf, Ready, Took};
 ghost use Rattle.class.specs.Class.{classOf, ClassComes};

@@ -11,7 +11,6 @@ use row::settle::settle;
 use wire::address::Address;
 use wire::kind::Message;
 ghost use mathlib.Core.Path.{_≡_};
-ghost use mathlib.Core.Bool.{true};
 ghost use Prim.Native.Nat.{_+_, _≤_, _<_};
 ghost use lib.ListN.{length, set};
 ghost use Rattle.class.specs.Turns.{noted, joined, offered, served, turnOf, serveTurn, Ready, Took};

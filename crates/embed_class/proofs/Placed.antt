@@ -1,16 +1,16 @@
 -- Where each image stands, and what stands there.
-use Prim.Native.Nat.{ℕ, zero, suc, _+_, _-_, _<_}
+use Prim.Native.Nat.{ℕ, zero, suc, _+_, _-_, _≤_, _<_}
 use mathlib.Core.Path.{_≡_, refl, sym, _∙_, ap}
 use mathlib.Core.List.{List, [], _∷_, _++_, append-assoc}
 use native.Mathlib.Nat.{not-suc-le-zero}
 use native.Mathlib.Omega.{arith}
-use lib.ListN.{length, take, drop, set}
-use lib.Seq.{take-at, drop-at, take-append-add, drop-append-add}
+use lib.ListN.{length, take, drop, set, length-drop}
+use lib.Seq.{take-at, drop-at, drop-drop, take-append-add, drop-append-add}
 use Rattle.module.specs.declared.state.Module.{Module}
 use Rattle.module.specs.Module.{kindOf}
 use Rattle.class.specs.Seat.{seatAt}
 use Rattle.image.specs.Image.{sizeOf, moduleOf, imageOf, heldIn, storedIfOwn}
-use Rattle.image.proofs.Sized.{size-of-image}
+use Rattle.image.proofs.Sized.{size-fits, size-of-image}
 use Rattle.image.proofs.Whole.{whole-module, image-is-one, its-image, own, held-there}
 use Rattle.embed_class.specs.Row.{rowOf, imagesOf, placeIn, fromImage, imageIn, withImage}
 use Rattle.embed_class.proofs.Images.{at-rest}
@@ -29,6 +29,22 @@ further (suc k) at n s h e =
 pub arrived : (left at : ℕ) (s : List ℕ) → left ≡ 0 → at + placeIn left s ≡ at
 unfolding placeIn
 arrived left at s none = rw none (omega arith)
+
+-- every place lies within the images
+pub place-inside : (k : ℕ) (s : List ℕ) → placeIn k s ≤ length s
+unfolding placeIn
+place-inside zero s = omega arith
+place-inside (suc k) s = omega (arith, size-fits s, length-drop (sizeOf s) s, place-inside k (drop (sizeOf s) s))
+
+-- the next image begins where this one ends
+pub place-on : (k : ℕ) (s : List ℕ) → placeIn (k + 1) s ≡ placeIn k s + sizeOf (fromImage k s)
+unfolding placeIn
+place-on zero s = omega arith
+place-on (suc k) s =
+    let n : ℕ = sizeOf s in
+    let after : suc k + 1 ≡ suc (k + 1) = omega arith in
+    let later = ap sizeOf (drop-drop (placeIn k (drop n s)) n s) in
+    rw after (omega (arith, place-on k (drop n s), later))
 
 -- what stands first in the images of a row is the first module's image
 first-of : (m : Module) (row : List Module) → take (sizeOf (imagesOf (m ∷ row))) (imagesOf (m ∷ row)) ≡ imageOf m
@@ -71,6 +87,16 @@ put-at (x ∷ row) (suc k) m h =
     (λ i. front i ++ later i)
     ∙ append-assoc (imageOf x) (take place (imagesOf row)) _
     ∙ ap (λ (s : List ℕ). imageOf x ++ s) (put-at row k m (omega arith))
+
+-- another module in seat k leaves image k where it was
+pub place-kept : (row : List Module) (k : ℕ) (m : Module) → placeIn k (imagesOf (set row k m)) ≡ placeIn k (imagesOf row)
+unfolding placeIn
+place-kept [] k m = refl
+place-kept (x ∷ row) zero m = refl
+place-kept (x ∷ row) (suc k) m =
+    place-next x (set row k m) k
+    ∙ ap (λ (n : ℕ). length (imageOf x) + n) (place-kept row k m)
+    ∙ sym (place-next x row k)
 
 -- the images of a row hold that row
 pub row-back : (row : List Module) → rowOf (length row) (imagesOf row) ≡ row

@@ -4,7 +4,7 @@ use mathlib.Core.Path.{_≡_, refl, sym, _∙_, ap, subst}
 use mathlib.Core.Bool.{Bool, true, false}
 use mathlib.Core.List.{List}
 use native.Mathlib.Omega.{arith}
-use lib.ListN.{length, set, length-set}
+use lib.ListN.{length, drop, set, length-set}
 use Rattle.basis.specs.Choice.{choose}
 use Rattle.wire.specs.declared.kind.Message.{Message}
 use Rattle.module.specs.declared.state.Module.{Module}
@@ -19,10 +19,10 @@ use Rattle.class.specs.Class.{ClassStep}
 use Rattle.row.specs.Round.{ended}
 use Rattle.class.specs.Turns.{Turn, offered, served, serveTurn, noteTurn, Ready}
 use Rattle.class.proofs.Runs.{Runs, Next, next, over}
-use Rattle.image.specs.Image.{heldIn, storedIfOwn}
-use Rattle.embed_class.specs.Row.{imagesOf, imageIn, withImage}
+use Rattle.image.specs.Image.{sizeOf, heldIn, storedIfOwn}
+use Rattle.embed_class.specs.Row.{imagesOf, placeIn, imageIn, withImage}
 use Rattle.embed_class.specs.Serve.{seatStepIn, withSeat, SeatComes, RowComes}
-use Rattle.embed_class.proofs.Placed.{image-at, put-at, kept, held-seat}
+use Rattle.embed_class.proofs.Placed.{place-on, image-at, put-at, place-kept, kept, held-seat}
 
 module _ (target : ClassStep) (heard : Message) (bytes count : ℕ) (t : Progress) where
   -- the progress t, at another seat and with another answer
@@ -122,6 +122,13 @@ module _ (target : ClassStep) (heard : Message) (bytes count : ℕ) (t : Progres
       -- it reads no more records than a share has
       pub few : own .read ≤ 256
       few = subst (λ (n : ℕ). n ≤ 256) (sym (s .read)) (most-read (heldIn (imageIn seat images) .«module») (shareAt (t .share) seat links) heard room)
+
+      -- its image begins where it did, so the next one begins behind it
+      pub goes-on : (place size : ℕ) → place ≡ placeIn seat images → size ≡ sizeOf (drop place images') → place + size ≡ placeIn (seat + 1) images'
+      goes-on place size e f =
+          let stood = ap (placeIn seat) (s .image-after ∙ row-after) ∙ place-kept (u .row) seat (y .next) ∙ sym (ap (placeIn seat) (u .held)) in
+          let it = e ∙ sym stood in
+          (λ j. it j + (f ∙ ap (λ (k : ℕ). sizeOf (drop k images')) it) j) ∙ sym (place-on seat images')
 
       -- wherever the turn leads, that is where the row stands
       leads : (seat' : ℕ) (answer' : ClassAnswer) → served (at seat answer) (y .outcome) (length (y .reply)) (y .read) ≡ at seat' answer'

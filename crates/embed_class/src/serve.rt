@@ -18,7 +18,7 @@ ghost use mathlib.Core.Bool.{true};
 ghost use Prim.Native.Nat.{_+_, _*_, _≤_};
 ghost use lib.ListN.{length};
 ghost use Rattle.class.specs.Class.{classOf};
-ghost use Rattle.embed_class.specs.Row.{isRow, rowOf};
+ghost use Rattle.embed_class.specs.Row.{isRow, rowOf, placeIn};
 ghost use Rattle.embed_class.specs.Serve.{joinedBy, withSeat, SeatComes, RowComes};
 
 pub(crate) fn serve_row(
@@ -41,10 +41,12 @@ pub(crate) fn serve_row(
     let t = noticed(names, count, links.len(), message, heard);
     let mut answer = t.answer;
     let mut seat = t.seat;
+    let mut at = place_of(images, seat); // goes along with the seat, so that a broadcast passes each image once
     while seat < count {
-        let own = serve_seat(images, seat, t.share, links, heard, room);
+        let own = serve_seat(images, at, seat, t.share, links, heard, room);
         if t.all {
             answer = with_seat(answer, own);
+            at += size_of(&images[at..]);
             seat += 1;
         } else {
             answer = own;
@@ -77,22 +79,23 @@ fn joined(so_far: ClassOutcome, outcome: ClassOutcome) -> ClassOutcome
     so_far
 }
 
-// One seat, with its own share.
+// One seat, whose image begins at `at`, with its own share.
 fn serve_seat(
     images: &mut [u8],
+    at: usize,
     seat: usize,
     share: usize,
     links: &mut [u8],
     heard: Message,
     room: &mut [u8],
 ) -> ClassAnswer
+    requires { ⌜ at ≡ placeIn seat (now images) ⌝ }
     requires { ⌜ seat * share + share ≤ length (now links) ⌝ }
     ensures { λ r. ⌜
         SeatComes share seat (now (images .entry)) (now (links .entry)) heard (now (room .entry))
         r (now (images .exit)) (now (links .exit)) (now (room .exit))
         ⌝ }
 {
-    let at = place_of(images, seat);
     let end = at + size_of(&images[at..]);
     let held = held_in(&images[at..end]);
     let m = held.module;

@@ -5,7 +5,7 @@ use wire::address::Address;
 ghost use mathlib.Core.Path.{_≡_};
 ghost use mathlib.Core.Bool.{true};
 ghost use Prim.Native.Nat.{_≤_};
-ghost use lib.ListN.{length, take};
+ghost use lib.ListN.{take};
 ghost use Rattle.embed_class.specs.Row.{isRow, rowOf, imagesOf, namesOf, placeIn};
 
 // Whether these bytes are so many images, and nothing else.
@@ -70,7 +70,7 @@ pub(crate) fn tidy_row(images: &mut [u8], count: usize)
 
 // Where an image begins; behind the last one where there are not so many.
 pub(crate) fn place_of(images: &[u8], k: usize) -> usize
-    ensures { λ r. ⌜ (r ≡ placeIn k (now (images .entry))) × (r ≤ length (now (images .entry))) ⌝ }
+    ensures { λ r. ⌜ r ≡ placeIn k (now (images .entry)) ⌝ }
 {
     let mut at: usize = 0;
     let mut left = k;

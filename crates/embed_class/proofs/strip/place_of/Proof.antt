@@ -45,7 +45,7 @@ returns : tie.Need-returns Inv-loop μ-loop
 returns c =
     let t = c .before .loop in
     let s = c .before .before .before .args .images .now in
-    (sym (arrived (t .left) (t .at) (drop (t .at) s) (omega arith)) ∙ t .inv .1, t .inv .0)
+    sym (arrived (t .left) (t .at) (drop (t .at) s) (omega arith)) ∙ t .inv .1
 
 pub place-of-spec : {M : Type 1} → statement M
 place-of-spec =

@@ -47,7 +47,7 @@ module _ (a n : ℕ) (s part : List ℕ) (inside : a + n ≤ length s) (q : part
 
   module _ (k : ℕ) (e : n ≡ sizeOf (drop a s)) (left : 0 < k) (some : 0 < sizeOf (drop a s)) where
     -- what stands behind the part is as it was
-    behind-it : drop (a + n) after ≡ drop (sizeOf (drop a s)) (drop a s)
+    pub behind-it : drop (a + n) after ≡ drop (sizeOf (drop a s)) (drop a s)
     behind-it = ap (drop (a + n)) seam ∙ drop-at (take a s ++ part) (drop (a + n) s) (a + n) front ∙ sym (at-rest a n s e)
 
     -- so it is a row where the part and it were one

@@ -1,7 +1,6 @@
 // A message to the row: whom it is for is decided by addresses alone, and only who is served is read out of its image.
-use crate::strip::names_in;
+use crate::strip::note_row;
 use crate::strip::place_of;
-use crate::strip::tidy_row;
 use device::step::serve;
 use image::held::held_in;
 use image::held::size_of;
@@ -35,8 +34,7 @@ pub(crate) fn serve_row(
         r (now (images .exit)) (now (links .exit)) (now (room .exit))
         ⌝ }
 {
-    let names = names_in(images, count);
-    tidy_row(images, count);
+    let names = note_row(images, count);
     let heard = hear(message);
     let t = noticed(names, count, links.len(), message, heard);
     let mut answer = t.answer;

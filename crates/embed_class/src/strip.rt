@@ -25,11 +25,12 @@ pub(crate) fn is_row(images: &[u8], count: usize) -> bool
     at == images.len()
 }
 
-// The addresses of the modules, in the first places.
-pub(crate) fn names_in(images: &[u8], count: usize) -> [Address; 16]
+// The addresses of the modules, in the first places; each image becomes that of the module it holds.
+pub(crate) fn note_row(images: &mut [u8], count: usize) -> [Address; 16]
     requires { ⌜ isRow count (now images) ≡ true ⌝ }
     requires { ⌜ count ≤ 16 ⌝ }
     ensures { λ r. ⌜ take count r ≡ namesOf (rowOf count (now (images .entry))) ⌝ }
+    ensures { λ _. ⌜ now (images .exit) ≡ imagesOf (rowOf count (now (images .entry))) ⌝ }
 {
     let blank = Address {
         high: 0,
@@ -40,32 +41,18 @@ pub(crate) fn names_in(images: &[u8], count: usize) -> [Address; 16]
     let mut at: usize = 0;
     let mut i: usize = 0;
     while i < count {
-        let n = size_of(&images[at..]);
+        let end = at + size_of(&images[at..]);
         let a = Address {
             high: images[at + 1],
             middle: images[at + 2],
             low: images[at + 3],
         };
         names[i] = a;
-        at += n;
-        i += 1;
-    }
-    names
-}
-
-// Each image becomes that of the module it holds.
-pub(crate) fn tidy_row(images: &mut [u8], count: usize)
-    requires { ⌜ isRow count (now images) ≡ true ⌝ }
-    ensures { λ _. ⌜ now (images .exit) ≡ imagesOf (rowOf count (now (images .entry))) ⌝ }
-{
-    let mut at: usize = 0;
-    let mut i: usize = 0;
-    while i < count {
-        let end = at + size_of(&images[at..]);
         tidy(&mut images[at..end]);
         at = end;
         i += 1;
     }
+    names
 }
 
 // Where an image begins; behind the last one where there are not so many.

@@ -29,7 +29,7 @@ abbrev μ-loop : tie.MeasureT-loop
 
 -- what it is called with, where the first place is known
 abbrev start : tie.After-place-of Inv-loop μ-loop → tie.Start Inv-loop μ-loop
-start p = p .before .before .before .before .before .before .before .before .before .before .before .before .before .before .before
+start p = p .before .before .before .before .before .before .before .before .before .before .before .before .before
 
 -- where a seat was served
 abbrev Turn : Type 0
@@ -67,11 +67,10 @@ inside p = lies (place-at (turn p)) (images-at (turn p)) (p .size-of .result) (p
 loop-holds : tie.Need-loop-holds Inv-loop μ-loop
 loop-holds c =
     let g = start c .args in
-    let named = c .before .before .before .before .before .before .before .before .before .names-in in
-    let tidied = c .before .before .before .before .before .before .before .tidy-row in
+    let noted = c .before .before .before .before .before .before .before .note-row in
     let heard = c .before .before .before .before .hear in
     let t = c .before .before .before .noticed in
-    let stands = starts (named .result) (g .count) (g .images .now) _ (g .links .now) (g .message .now) (g .room .now) (tidied .ensures) (named .ensures) _ _ (heard .ensures) (t .ensures) in
+    let stands = starts (noted .result) (g .count) (g .images .now) _ (g .links .now) (g .message .now) (g .room .now) (noted .ensures .1) (noted .ensures .0) _ _ (heard .ensures) (t .ensures) in
     (refl, refl, refl, stands, λ h. c .place-of .ensures)
 
 serve-seat-requires : tie.Need-serve-seat-requires Inv-loop μ-loop
@@ -89,8 +88,8 @@ with-seat-requires c κs =
 add-at : tie.Need-add-at Inv-loop μ-loop
 add-at c =
     let p = turn c in
-    let tidied = first p .before .before .before .before .before .before .before .tidy-row in
-    omega (arith, inside c, p .serve-seat .kept .0, p .before .before .before .before .before .loop .inv .0, tidied .kept .0, start (first p) .good .0)
+    let noted = first p .before .before .before .before .before .before .before .note-row in
+    omega (arith, inside c, p .serve-seat .kept .0, p .before .before .before .before .before .loop .inv .0, noted .kept .0, start (first p) .good .0)
 
 -- there are not so many seats
 add-seat : tie.Need-add-seat Inv-loop μ-loop
@@ -123,8 +122,8 @@ returns : tie.Need-returns Inv-loop μ-loop
 returns c =
     let t = c .before .loop in
     let g = start (c .before .before) .args in
-    let tidied = c .before .before .before .before .before .before .before .before .before .tidy-row in
-    let same = still-held (g .count) (g .images .now) (tidied .last .0) (tidied .ensures) in
+    let noted = c .before .before .before .before .before .before .before .before .before .note-row in
+    let same = still-held (g .count) (g .images .now) (noted .last .0) (noted .ensures .1) in
     subst (λ (row : List Module). RowComes (classOf row (g .links .now) (g .message .now) (g .room .now)) (t .answer) (t .images) (t .links) (t .room)) same
     (stands-over _ _ _ _ _ _ _ _ _ _ (t .inv .3) (omega arith))
 
@@ -135,7 +134,6 @@ serve-row-spec =
     Inv-loop
     μ-loop
     (λ c κs. c .before .before .before .before .before .pre)
-    (λ c κs. c .before .before .before .before .before .before .before .pre .0)
     (λ c κs. tt)
     (λ c κs. tt)
     (λ c κs. tt)
@@ -152,7 +150,7 @@ serve-row-spec =
     loop-again
     (λ c. omega arith)
     loop-again-2
-    (λ c. c .before .loop .inv .0 ∙ c .before .before .before .before .before .before .before .before .before .tidy-row .kept .0)
+    (λ c. c .before .loop .inv .0 ∙ c .before .before .before .before .before .before .before .before .before .note-row .kept .0)
     (λ c. c .before .loop .inv .1)
     (λ c. c .before .loop .inv .2)
     returns)

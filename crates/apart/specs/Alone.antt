@@ -1,7 +1,7 @@
 -- Each seat runs as if alone: one message (document 02, "One bench for a class").
 use Prim.Native.Nat.{ℕ, _<_}
 use mathlib.Core.Path.{_≡_}
-use mathlib.Core.Bool.{true, false}
+use mathlib.Core.Bool.{Bool, true, false}
 use mathlib.Core.List.{List, []}
 use lib.Dec.{eqb}
 use lib.ListN.{length}
@@ -39,13 +39,17 @@ AnsweredAlone =
     (c : Class) → Seated c → (x : Call) (i : ℕ) → i < length (c .row) →
     isFor (nameAt (c .row) i) (x .message) ≡ true → isBroadcast (x .message) ≡ false → Answers (tell c x) (callOf (alone c i) x)
 
+-- a seat carries a message out, alone
+abbrev pub actsAlone : Class → Call → ℕ → Bool
+actsAlone c x i = eqb (numberOf (callOf (alone c i) x .outcome)) 0
+
 -- a broadcast: nothing is sent; what the seats alone read is added up; 0 where any of them acts, else 8
 pub record Offers (c : Class) (x : Call) : Type 0 where
   pub reply : tell c x .reply ≡ []
   pub room : tell c x .room ≡ x .room
   pub read : tell c x .read ≡ sumFrom (λ (i : ℕ). callOf (alone c i) x .read) (length (c .row)) 0
   pub outcome : tell c x .outcome
-      ≡ ClassOutcome.Single (choose (anyFrom (λ (i : ℕ). eqb (numberOf (callOf (alone c i) x .outcome)) 0) (length (c .row)) 0) Outcome.Done Outcome.Unconcerned)
+      ≡ ClassOutcome.Single (choose (anyFrom (actsAlone c x) (length (c .row)) 0) Outcome.Done Outcome.Unconcerned)
 
 abbrev pub OfferedToAll : Type 0
 OfferedToAll =

@@ -6,6 +6,7 @@ use mathlib.Core.Bool.{Bool, true, false, not}
 use mathlib.Core.List.{List, [], _∷_, _++_, map}
 use lib.ListN.{take}
 use Rattle.basis.specs.Choice.{choose}
+use Rattle.wire.specs.declared.address.Address.{Address}
 use Rattle.module.specs.declared.state.Load.{Load}
 use Rattle.module.specs.declared.state.Module.{Module}
 use Rattle.module.specs.Module.{freshDimmer, freshOutlet}
@@ -18,11 +19,14 @@ use Rattle.promises.specs.Outlets.{group-1, record-of}
 use Rattle.apart.specs.Lesson.{Class, tell}
 
 -- seat i has address 00 10 3A and i more
+abbrev pub name : ℕ → Address
+name i = record { high = 0x00; middle = 0x10; low = 0x3a + i }
+
 unfoldable pub dimmer : ℕ → Module
-dimmer i = freshDimmer (record { address = record { high = 0x00; middle = 0x10; low = 0x3a + i }; category = 0x01; subcategory = 0x0e; firmware = 0x41; revision = 0x00 })
+dimmer i = freshDimmer (record { address = name i; category = 0x01; subcategory = 0x0e; firmware = 0x41; revision = 0x00 })
 
 unfoldable pub outlet : ℕ → Module
-outlet i = freshOutlet (record { address = record { high = 0x00; middle = 0x10; low = 0x3a + i }; category = 0x02; subcategory = 0x39; firmware = 0x41; revision = 0x00 })
+outlet i = freshOutlet (record { address = name i; category = 0x02; subcategory = 0x39; firmware = 0x41; revision = 0x00 })
 
 unfoldable pub lit : ℕ → Module
 lit i = withLoad (Load.Dimmer (record { level = 0x80; ramp = 0x1f; «on_level» = 0xff })) (dimmer i)

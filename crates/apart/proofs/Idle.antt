@@ -12,12 +12,12 @@ use Rattle.wire.specs.Kinds.{isDirect, isCleanup, isBroadcast, isUnheard, isFor
 use Rattle.wire.specs.Reading.{readOf}
 use Rattle.links.specs.Record.{isFit}
 use Rattle.module.specs.declared.state.Module.{Module}
-use Rattle.module.specs.declared.change.Change.{Change}
 use Rattle.decide.specs.declared.rule.Ruling.{Ruling}
 use Rattle.decide.specs.Ruling.{readRuling, rulingBy, rulingOf}
 use Rattle.device.specs.Step.{Step, stepOf}
 use Rattle.row.proofs.Readings.{some-kind}
 use Rattle.apart.specs.Lesson.{isFor}
+use Rattle.promises.proofs.Stranger.{Idle}
 
 -- it is foreign then, if it is whole
 foreign : (a : Address) (s : List ℕ) → isFor a s ≡ false → isWhole s ≡ true → isForeign s a ≡ true
@@ -39,21 +39,21 @@ foreign a s h w = go (isUnheard s) refl
 
 module _ (m : Module) (l s room : List ℕ) (h : isFor (m .identity .address) s ≡ false) where
   abbrev Still : Message → Type 0
-  Still x = readRuling m l (x .«data») (x .reading) .plan .change ≡ Change.Nothing
+  Still x = Idle (readRuling m l (x .«data») (x .reading) .plan)
 
   read-still : Still (readOf s (m .identity .address))
   unfolding readOf
   read-still =
       by Still (isWhole s)
-      (λ w. by Still (isForeign s (m .identity .address)) (λ f. refl) (λ f. clash (foreign (m .identity .address) s h w) f))
-      (λ w. refl)
+      (λ w. by Still (isForeign s (m .identity .address)) (λ f. (refl, refl)) (λ f. clash (foreign (m .identity .address) s h w) f))
+      (λ w. (refl, refl))
 
-  nothing-changes : rulingOf m l s .plan .change ≡ Change.Nothing
+  nothing-changes : Idle (rulingOf m l s .plan)
   unfolding rulingBy
-  nothing-changes = either (λ (r : Ruling). r .plan .change ≡ Change.Nothing) (isFit l) read-still refl
+  nothing-changes = either (λ (r : Ruling). Idle (r .plan)) (isFit l) read-still (refl, refl)
 
   pub idle-module : stepOf m l s room .next ≡ m
-  idle-module = either (λ (t : Step). t .next ≡ m) _ refl (rw nothing-changes)
+  idle-module = either (λ (t : Step). t .next ≡ m) _ refl (rw (nothing-changes .0))
 
   pub idle-links : stepOf m l s room .links ≡ l
-  idle-links = either (λ (t : Step). t .links ≡ l) _ refl (rw nothing-changes)
+  idle-links = either (λ (t : Step). t .links ≡ l) _ refl (rw (nothing-changes .1))

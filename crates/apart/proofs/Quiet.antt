@@ -25,10 +25,10 @@ use Rattle.links.specs.Write.{writtenIfThere}
 use Rattle.links.proofs.Written.{length-written}
 use Rattle.reply.specs.declared.due.Due.{Due}
 use Rattle.module.specs.declared.state.Module.{Module}
-use Rattle.module.specs.declared.change.Change.{Change}
 use Rattle.module.specs.declared.deed.GroupDeed.{GroupDeed}
+use Rattle.module.specs.declared.plan.Writing.{Writing}
 use Rattle.decide.specs.declared.rule.Ruling.{Ruling}
-use Rattle.decide.specs.Dispatch.{groupDeedOf}
+use Rattle.decide.specs.Dispatch.{groupDeedBy}
 use Rattle.decide.specs.Groups.{broadcastBy, broadcastPlan}
 use Rattle.decide.specs.Decide.{broadcastWanted}
 use Rattle.decide.specs.Ruling.{readRuling, rulingBy, rulingOf}
@@ -46,26 +46,21 @@ write-length l k bytes =
     length-written l k bytes (leb-true (length bytes) 8 (p .1)) (omega (arith, there)))
     (λ q. refl)
 
-change-length : (l d : List ℕ) (change : Change) → length (linksAfter l d change) ≡ length l
-change-length l d Change.Nothing = refl
-change-length l d (Change.Flags x) = refl
-change-length l d (Change.Led x) = refl
-change-length l d (Change.X10 house unit) = refl
-change-length l d (Change.Lamp x) = refl
-change-length l d (Change.Sockets x) = refl
-change-length l d (Change.Record k n) = write-length l k (take n (drop 5 d))
+writing-length : (l d : List ℕ) (writing : Writing) → length (linksAfter l d writing) ≡ length l
+writing-length l d Writing.Nothing = refl
+writing-length l d (Writing.Record k n) = write-length l k (take n (drop 5 d))
 
 pub same-bytes : (m : Module) (l s room : List ℕ) → length (stepOf m l s room .links) ≡ length l
-same-bytes m l s room = either (λ (t : Step). length (t .links) ≡ length l) _ refl (change-length l _ (rulingOf m l s .plan .change))
+same-bytes m l s room = either (λ (t : Step). length (t .links) ≡ length l) _ refl (writing-length l _ (rulingOf m l s .plan .writing))
 
 -- a broadcast is never answered
 deed-quiet : (deed : GroupDeed) → broadcastBy deed .due ≡ Due.Nothing
-deed-quiet (GroupDeed.Done change) = refl
+deed-quiet (GroupDeed.Done load) = refl
 deed-quiet GroupDeed.Unlisted = refl
 
-plan-quiet : (m : Module) (command : GroupCommand) (found : Found) → broadcastPlan m command found .due ≡ Due.Nothing
+plan-quiet : (m : Module) (command : GroupCommand) (found : Found) → broadcastPlan (m .load) command found .due ≡ Due.Nothing
 plan-quiet m command Found.NoSearch = refl
-plan-quiet m command (Found.Match link) = deed-quiet (groupDeedOf m command link)
+plan-quiet m command (Found.Match link) = deed-quiet (groupDeedBy (m .load) command link)
 plan-quiet m command Found.EndMark = refl
 plan-quiet m command Found.MemoryEnd = refl
 

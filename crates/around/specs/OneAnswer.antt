@@ -32,12 +32,14 @@ use Rattle.reply.specs.Sending.{Sending}
 use Rattle.results.specs.declared.Outcome.{Outcome}
 use Rattle.results.specs.Number.{numberOf}
 use Rattle.module.specs.declared.state.Identity.{Identity}
-use Rattle.module.specs.declared.state.Lamp.{Lamp}
-use Rattle.module.specs.declared.state.Sockets.{Sockets}
+use Rattle.load.specs.declared.entry.Properties.{Properties}
+use Rattle.load.specs.declared.state.Lamp.{Lamp}
+use Rattle.load.specs.declared.state.Sockets.{Sockets}
+use Rattle.load.specs.declared.state.Load.{Load}
+use Rattle.load.specs.Fresh.{freshLamp, freshSockets}
 use Rattle.module.specs.declared.state.Module.{Module}
 use Rattle.module.specs.declared.change.Change.{Change}
 use Rattle.module.specs.declared.deed.Deed.{Deed}
-use Rattle.module.specs.declared.deed.Entry.{Entry}
 use Rattle.module.specs.declared.deed.GroupDeed.{GroupDeed}
 use Rattle.module.specs.declared.plan.Plan.{Plan}
 use Rattle.module.specs.Module.{freshDimmer, freshOutlet}
@@ -46,8 +48,12 @@ use Rattle.module.specs.Deed
 use Rattle.module.specs.Plan
 use Rattle.shared.specs.Extended.{shownDeed}
 use Rattle.shared.specs.Table.{sharedDeed}
+use Rattle.dimmer.specs.declared.lamp.LampEntry.{LampEntry}
+use Rattle.dimmer.specs.declared.groups.LampGroup.{LampGroup}
 use Rattle.dimmer.specs.Table as dimmer
 use Rattle.dimmer.specs.Groups as dimmer-groups
+use Rattle.outlet.specs.declared.sockets.SocketsEntry.{SocketsEntry}
+use Rattle.outlet.specs.declared.groups.SocketsGroup.{SocketsGroup}
 use Rattle.outlet.specs.Table as outlet
 use Rattle.outlet.specs.Groups as outlet-groups
 use Rattle.decide.specs.declared.rule.Ruling.{Ruling}
@@ -138,28 +144,31 @@ pub record EachOnce : Type 0 where
   pub reply-send : (own : Address) (l : List ℕ) (due : Due) (room : List ℕ)
       → Only (λ (d : Delivered). Sending (replyOf own l due) room (d .answer) (d .room))
   pub results-number : (o : Outcome) → Only (λ (r : ℕ). r ≡ numberOf o)
+  pub load-fresh-lamp : Only (λ (r : Lamp). r ≡ freshLamp)
+  pub load-fresh-sockets : Only (λ (r : Sockets). r ≡ freshSockets)
   pub module-fresh-dimmer : (i : Identity) → Only (λ (r : Module). r ≡ freshDimmer i)
   pub module-fresh-outlet : (i : Identity) → Only (λ (r : Module). r ≡ freshOutlet i)
   pub module-apply : (m : Module) (change : Change) → Only (λ (r : Module). r ≡ apply change m)
   pub module-acked : (change : Change) → Only (λ (r : Deed). r ≡ Deed.acked change)
   pub module-telling : (x : ℕ) → Only (λ (r : Deed). r ≡ Deed.telling x)
   pub module-showing : (x : ℕ) → Only (λ (r : Deed). r ≡ Deed.showing x)
-  pub module-limited : (a b x : ℕ) (change : Change) → Only (λ (r : Deed). r ≡ Deed.limited a b x change)
+  pub module-limited : (a b x : ℕ) (deed : Deed) → Only (λ (r : Deed). r ≡ Deed.limited a b x deed)
+  pub module-grouped-by : (load : Load) (isListed : Bool) → Only (λ (r : GroupDeed). r ≡ Deed.groupedBy load isListed)
   pub module-headed : (type : ReplyType) (q : Request) (one two : ℕ) → Only (λ (r : Head). r ≡ Plan.headed type q one two)
   pub module-done : (change : Change) (due : Due) → Only (λ (r : Plan). r ≡ Plan.done change due)
+  pub module-wrote : (k n : ℕ) (due : Due) → Only (λ (r : Plan). r ≡ Plan.wrote k n due)
   pub module-refused : (o : Outcome) (due : Due) → Only (λ (r : Plan). r ≡ Plan.refused o due)
   pub module-unlinked : (type : ReplyType) (q : Request) → Only (λ (r : Plan). r ≡ Plan.unlinked type q)
   pub module-unlisted : (type : ReplyType) (q : Request) → Only (λ (r : Plan). r ≡ Plan.unlisted type q)
   pub module-deed-plan : (m : Module) (q : Request) (deed : Deed) → Only (λ (r : Plan). r ≡ Plan.deedPlan m q deed)
-  pub shared-shown-deed : (m : Module) (data1 ramp level : ℕ) → Only (λ (r : Deed). r ≡ shownDeed m data1 ramp level)
+  pub shared-shown-deed : (m : Module) (data1 : ℕ) (p : Properties) → Only (λ (r : Deed). r ≡ shownDeed m data1 p)
   pub shared-shared-deed : (m : Module) (q : Request) (d : List ℕ) (n : ℕ) (command : Command) → Only (λ (r : Deed). r ≡ sharedDeed m q d n command)
-  pub dimmer-entry-of : (m : Module) (lamp : Lamp) (q : Request) (d : List ℕ) (command : Command)
-      → Only (λ (r : Entry). r ≡ dimmer.entryOf m lamp q d command)
-  pub dimmer-group-deed : (lamp : Lamp) (command : GroupCommand) (link : Link) → Only (λ (r : GroupDeed). r ≡ dimmer-groups.groupDeed lamp command link)
-  pub outlet-entry-of : (m : Module) (sockets : Sockets) (q : Request) (d : List ℕ) (command : Command)
-      → Only (λ (r : Entry). r ≡ outlet.entryOf m sockets q d command)
-  pub outlet-group-deed : (sockets : Sockets) (command : GroupCommand) (link : Link)
-      → Only (λ (r : GroupDeed). r ≡ outlet-groups.groupDeed sockets command link)
+  pub dimmer-entry-of : (lamp : Lamp) (q : Request) (d : List ℕ) (command : Command) → Only (λ (r : LampEntry). r ≡ dimmer.entryOf lamp q d command)
+  pub dimmer-group-of : (lamp : Lamp) (command : GroupCommand) (link : Link) → Only (λ (r : LampGroup). r ≡ dimmer-groups.groupOf lamp command link)
+  pub outlet-entry-of : (sockets : Sockets) (q : Request) (d : List ℕ) (command : Command)
+      → Only (λ (r : SocketsEntry). r ≡ outlet.entryOf sockets q d command)
+  pub outlet-group-of : (sockets : Sockets) (command : GroupCommand) (link : Link)
+      → Only (λ (r : SocketsGroup). r ≡ outlet-groups.groupOf sockets command link)
   pub decide-ruling-by : (m : Module) (l : List ℕ) (message : Message) → Only (λ (r : Ruling). r ≡ rulingBy m l message)
   pub device-step : (m : Module) (l s room : List ℕ) → Only (λ (d : Called). StepPromise m l s room (d .answer) (d .links) (d .room))
   pub device-serve : (m : Module) (l : List ℕ) (heard : Message) (room : List ℕ)

@@ -2,11 +2,12 @@
 use Prim.Native.Nat.{ℕ}
 use mathlib.Core.Path.{_≡_, refl}
 use mathlib.Core.Bool.{Bool, true, _&&_}
-use mathlib.Core.List.{List, [], _∷_, reverse, reverseAux}
-use borrow.Author.Tests.{ne-eqb}
+use mathlib.Core.List.{List, [], _∷_, map, reverse, reverseAux}
+use lib.Dec.{eqb}
+use borrow.Author.Tests.{ne-eqb, eqb-true}
 use Rattle.basis.specs.Choice.{choose}
 use Rattle.basis.specs.Table.{Row, among}
-use Rattle.basis.proofs.Choice.{either}
+use Rattle.basis.proofs.Choice.{either, by, beside}
 use Rattle.basis.proofs.Tests.{both}
 
 -- x is the number of none of the rows; the last row first, as a `match` leaves it to its `_`
@@ -34,3 +35,26 @@ passed t x other [] h q = q
 passed t x other (r ∷ rs) h q =
     let p = both (t (r .value)) (allRows t rs) h in
     either (λ (v : _). t v ≡ true) _ (p .0) (passed t x other rs (p .1) q)
+
+-- what holds of each row where x is its number
+abbrev pub EachRow : {A : Type 0} → (A → Type 0) → ℕ → List (Row A) → Type 0
+EachRow P x [] = Unit {0}
+EachRow P x (r ∷ rs) = (x ≡ r .key → P (r .value)) × EachRow P x rs
+
+-- one row, and those behind it
+infixr 40 _or_
+pub _or_ : {A B : Type 0} → A → B → A × B
+f or g = (f, g)
+
+-- a number has its row, or what stands for a missing one: what holds of all these holds of what the table says
+pub by-rows : {A : Type 0} (P : A → Type 0) (x : ℕ) (other : A) (rows : List (Row A)) → EachRow P x rows → P other → P (among x other rows)
+by-rows P x other [] h q = q
+by-rows P x other (r ∷ rs) h q = by P (eqb x (r .key)) (λ e. h .0 (eqb-true x (r .key) e)) (λ _. by-rows P x other rs (h .1) q)
+
+-- a table whose values are all altered alike
+abbrev pub altered : {A B : Type 0} → (A → B) → List (Row A) → List (Row B)
+altered f rows = map (λ (r : Row _). record { key = r .key; value = f (r .value) }) rows
+
+pub altered-rows : {A B : Type 0} (f : A → B) (x : ℕ) (other : A) (rows : List (Row A)) → among x (f other) (altered f rows) ≡ f (among x other rows)
+altered-rows f x other [] = refl
+altered-rows f x other (r ∷ rs) = beside (λ (y : _) (z : _). y ≡ f z) (eqb x (r .key)) refl (altered-rows f x other rs)

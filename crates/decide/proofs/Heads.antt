@@ -29,7 +29,7 @@ use Rattle.module.specs.declared.deed.GroupDeed.{GroupDeed}
 use Rattle.module.specs.declared.plan.Plan.{Plan}
 use Rattle.module.specs.Plan.{headed, dueOf, deedPlan}
 use Rattle.decide.specs.declared.rule.Ruling.{Ruling}
-use Rattle.decide.specs.Dispatch.{deedOf, groupDeedOf}
+use Rattle.decide.specs.Dispatch.{deedOf, groupDeedBy}
 use Rattle.decide.specs.Groups.{broadcastBy, cleanupBy}
 use Rattle.decide.specs.Decide.{needsNoLink, directPlan, wantedOf}
 use Rattle.decide.specs.Ruling.{readRuling, kindRuling, rulingBy, rulingOf}
@@ -51,15 +51,16 @@ module _ (m : Module) (r : Request) where
 
   deed-begins : (deed : Deed) → Begun (r .hops) (deedPlan m r deed)
   deed-begins (Deed.Done change ack) = ack-begins ack
+  deed-begins (Deed.Written k n) = opened ReplyType.Ack r _ _ refl
   deed-begins Deed.Unlisted = opened ReplyType.Nak r _ _ refl
 
 cleanup-begins : (r : Request) (deed : GroupDeed) → Begun (r .hops) (cleanupBy r deed)
-cleanup-begins r (GroupDeed.Done change) = opened ReplyType.CleanupAck r _ _ refl
+cleanup-begins r (GroupDeed.Done load) = opened ReplyType.CleanupAck r _ _ refl
 cleanup-begins r GroupDeed.Unlisted = opened ReplyType.CleanupNak r _ _ refl
 
 -- a broadcast is not answered
 broadcast-begins : (hops : ℕ) (deed : GroupDeed) → Begun hops (broadcastBy deed)
-broadcast-begins hops (GroupDeed.Done change) = tt
+broadcast-begins hops (GroupDeed.Done load) = tt
 broadcast-begins hops GroupDeed.Unlisted = tt
 
 module _ (m : Module) (l d : List ℕ) where
@@ -74,11 +75,11 @@ module _ (m : Module) (l d : List ℕ) where
 
   cleanup : (r : Request) (command : GroupCommand) → Answered (r .hops) (MessageKind.Cleanup r command)
   cleanup r command =
-      by-found (Begun (r .hops)) (searchOf l (wantedOf (MessageKind.Cleanup r command)) .found) _ _ (λ link. cleanup-begins r (groupDeedOf m command link)) (opened ReplyType.CleanupNak r _ _ refl)
+      by-found (Begun (r .hops)) (searchOf l (wantedOf (MessageKind.Cleanup r command)) .found) _ _ (λ link. cleanup-begins r (groupDeedBy (m .load) command link)) (opened ReplyType.CleanupNak r _ _ refl)
 
   broadcast : (hops : ℕ) (from to : Address) (command : GroupCommand) → Answered hops (MessageKind.Broadcast from to command)
   broadcast hops from to command =
-      by-found (Begun hops) (searchOf l (wantedOf (MessageKind.Broadcast from to command)) .found) _ _ (λ link. broadcast-begins hops (groupDeedOf m command link)) tt
+      by-found (Begun hops) (searchOf l (wantedOf (MessageKind.Broadcast from to command)) .found) _ _ (λ link. broadcast-begins hops (groupDeedBy (m .load) command link)) tt
 
 module _ (m : Module) (l s : List ℕ) where
   kind-begins : Answered m l (dataOf s) (hopsOf s) (kindOf s)

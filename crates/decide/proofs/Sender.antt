@@ -16,7 +16,7 @@ use Rattle.reply.specs.declared.due.ReplyType.{ReplyType}
 use Rattle.module.specs.declared.state.Module.{Module}
 use Rattle.module.specs.declared.plan.Plan.{Plan}
 use Rattle.module.specs.Plan.{unlinked, deedPlan}
-use Rattle.decide.specs.Dispatch.{deedOf, groupDeedOf}
+use Rattle.decide.specs.Dispatch.{deedOf, groupDeedBy}
 use Rattle.decide.specs.Groups.{isCall, unconcerned, broadcastBy, broadcastPlan, cleanupBy, cleanupPlan}
 use Rattle.decide.specs.Decide.{needsNoLink, directWanted, senderInGroup, broadcastWanted, directPlan}
 
@@ -45,14 +45,14 @@ module _ (m : Module) (l : List ℕ) (r : Request) where
     unfolding directPlan choose
     stranger-plan stranger e = rw (e, unfound l (r .from) (λ link. true) false stranger)
 
-  pub stranger-cleanup : (Linked l (r .from) → ⊥) → (command : GroupCommand) → cleanupPlan m r command (searchOf l (senderInGroup r) .found) ≡ unlinked ReplyType.CleanupNak r
-  stranger-cleanup stranger command = unfound-in-group l (r .from) (λ link. cleanupBy r (groupDeedOf m command link)) (unlinked ReplyType.CleanupNak r) stranger (r .command2)
+  pub stranger-cleanup : (Linked l (r .from) → ⊥) → (command : GroupCommand) → cleanupPlan (m .load) r command (searchOf l (senderInGroup r) .found) ≡ unlinked ReplyType.CleanupNak r
+  stranger-cleanup stranger command = unfound-in-group l (r .from) (λ link. cleanupBy r (groupDeedBy (m .load) command link)) (unlinked ReplyType.CleanupNak r) stranger (r .command2)
 
 pub stranger-broadcast : (m : Module) (l : List ℕ) (from to : Address) → (Linked l from → ⊥) → (command : GroupCommand)
-    → broadcastPlan m command (searchOf l (broadcastWanted from to command) .found) ≡ unconcerned
+    → broadcastPlan (m .load) command (searchOf l (broadcastWanted from to command) .found) ≡ unconcerned
 unfolding choose
 stranger-broadcast m l from to stranger command = go (isCall to command)
   where
-    go : (t : Bool) → broadcastPlan m command (searchOf l (choose t (Wanted.Responder from (to .low)) Wanted.Nobody) .found) ≡ unconcerned
-    go true = unfound-in-group l from (λ link. broadcastBy (groupDeedOf m command link)) unconcerned stranger (to .low)
+    go : (t : Bool) → broadcastPlan (m .load) command (searchOf l (choose t (Wanted.Responder from (to .low)) Wanted.Nobody) .found) ≡ unconcerned
+    go true = unfound-in-group l from (λ link. broadcastBy (groupDeedBy (m .load) command link)) unconcerned stranger (to .low)
     go false = refl

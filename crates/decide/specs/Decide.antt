@@ -25,8 +25,7 @@ use Rattle.decide.specs.Groups.{isCall, broadcastPlan, cleanupPlan}
 abbrev pub isOpen : Standard → Bool
 isOpen (Standard.Open command) = true
 isOpen (Standard.Module command) = false
-isOpen (Standard.Load command) = false
-isOpen Standard.Unlisted = false
+isOpen Standard.Load = false
 
 abbrev pub needsNoLink : Command → Bool
 needsNoLink (Command.Standard command) = isOpen command
@@ -55,6 +54,6 @@ directPlan m r d n command found = choose (needsNoLink command || isFound found)
 
 abbrev pub planOf : Module → MessageKind → List ℕ → ℕ → Found → Plan
 planOf m (MessageKind.Direct r command) d n found = directPlan m r d n command found
-planOf m (MessageKind.Cleanup r command) d n found = cleanupPlan m r command found
-planOf m (MessageKind.Broadcast from to command) d n found = broadcastPlan m command found
+planOf m (MessageKind.Cleanup r command) d n found = cleanupPlan (m .load) r command found
+planOf m (MessageKind.Broadcast from to command) d n found = broadcastPlan (m .load) command found
 planOf m MessageKind.Foreign d n found = refused Outcome.Foreign Due.Nothing

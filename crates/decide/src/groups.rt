@@ -1,6 +1,8 @@
 // What comes of broadcasts and cleanups ("Groups").
-use crate::dispatch::group_deed_of;
+use crate::dispatch::group_deed_by;
 use links::search::Found;
+use load::state::Load;
+use module::change::Change;
 use module::deed::GroupDeed;
 use module::plan::Plan;
 use module::plan::done;
@@ -8,7 +10,6 @@ use module::plan::headed;
 use module::plan::refused;
 use module::plan::unlinked;
 use module::plan::unlisted;
-use module::state::Module;
 use reply::due::Due;
 use reply::due::ReplyType;
 use results::Outcome;
@@ -29,12 +30,12 @@ pub(crate) fn is_call(to: Address, command: GroupCommand) -> bool
     }
 }
 
-pub(crate) fn broadcast_plan(m: Module, command: GroupCommand, found: Found) -> Plan
-    ensures { λ r. ⌜ r ≡ broadcastPlan m command found ⌝ }
+pub(crate) fn broadcast_plan(load: Load, command: GroupCommand, found: Found) -> Plan
+    ensures { λ r. ⌜ r ≡ broadcastPlan load command found ⌝ }
 {
     match found {
         Found::NoSearch => unconcerned(),
-        Found::Match(link) => broadcast_by(group_deed_of(m, command, link)),
+        Found::Match(link) => broadcast_by(group_deed_by(load, command, link)),
         Found::EndMark => unconcerned(),
         Found::MemoryEnd => unconcerned(),
     }
@@ -44,7 +45,7 @@ fn broadcast_by(deed: GroupDeed) -> Plan
     ensures { λ r. ⌜ r ≡ broadcastBy deed ⌝ }
 {
     match deed {
-        GroupDeed::Done(change) => done(change, Due::Nothing),
+        GroupDeed::Done(load) => done(Change::Load(load), Due::Nothing),
         GroupDeed::Unlisted => unconcerned(),
     }
 }
@@ -56,12 +57,12 @@ fn unconcerned() -> Plan
     refused(Outcome::Unconcerned, Due::Nothing)
 }
 
-pub(crate) fn cleanup_plan(m: Module, r: Request, command: GroupCommand, found: Found) -> Plan
-    ensures { λ p. ⌜ p ≡ cleanupPlan m r command found ⌝ }
+pub(crate) fn cleanup_plan(load: Load, r: Request, command: GroupCommand, found: Found) -> Plan
+    ensures { λ p. ⌜ p ≡ cleanupPlan load r command found ⌝ }
 {
     match found {
         Found::NoSearch => unlinked(ReplyType::CleanupNak, r),
-        Found::Match(link) => cleanup_by(r, group_deed_of(m, command, link)),
+        Found::Match(link) => cleanup_by(r, group_deed_by(load, command, link)),
         Found::EndMark => unlinked(ReplyType::CleanupNak, r),
         Found::MemoryEnd => unlinked(ReplyType::CleanupNak, r),
     }
@@ -71,8 +72,8 @@ fn cleanup_by(r: Request, deed: GroupDeed) -> Plan
     ensures { λ p. ⌜ p ≡ cleanupBy r deed ⌝ }
 {
     match deed {
-        GroupDeed::Done(change) => done(
-            change,
+        GroupDeed::Done(load) => done(
+            Change::Load(load),
             Due::Alone(headed(ReplyType::CleanupAck, r, r.command1, r.command2)),
         ),
         GroupDeed::Unlisted => unlisted(ReplyType::CleanupNak, r),

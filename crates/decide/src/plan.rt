@@ -80,8 +80,7 @@ fn is_open(command: Standard) -> bool
     match command {
         Standard::Open(_) => true,
         Standard::Module(_) => false,
-        Standard::Load(_) => false,
-        Standard::Unlisted => false,
+        Standard::Load => false,
     }
 }
 
@@ -95,10 +94,11 @@ pub(crate) fn plan_of(
 ) -> Plan
     ensures { λ r. ⌜ r ≡ planOf m kind «data» records found ⌝ }
 {
+    let load = m.load;
     match kind {
         MessageKind::Direct(r, command) => direct_plan(m, r, data, records, command, found),
-        MessageKind::Cleanup(r, command) => cleanup_plan(m, r, command, found),
-        MessageKind::Broadcast(_, _, command) => broadcast_plan(m, command, found),
+        MessageKind::Cleanup(r, command) => cleanup_plan(load, r, command, found),
+        MessageKind::Broadcast(_, _, command) => broadcast_plan(load, command, found),
         MessageKind::Foreign => refused(Outcome::Foreign, Due::Nothing),
     }
 }

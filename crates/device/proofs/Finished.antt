@@ -43,7 +43,7 @@ module _ (m : Module) (l : List ℕ) (heard : Message) (room : List ℕ) (r : Ru
   -- room enough: all has happened that was decided
   whole : (n : ℕ) (next : Module) (links after : List ℕ)
       → next ≡ apply (r .plan .change) m
-      → links ≡ linksAfter l (heard .«data») (r .plan .change)
+      → links ≡ linksAfter l (heard .«data») (r .plan .writing)
       → Sending due room (Sent.Whole n) after
       → Comes (stepBy m l heard room) (record { outcome = r .plan .outcome; length = n; read = r .read; next = next }) links after
   unfolding sentOf laidIfFits choose
@@ -65,7 +65,7 @@ module _ (m : Module) (l : List ℕ) (heard : Message) (room : List ℕ) (r : Ru
 
   -- whatever it came to
   pub finished : (sent : Sent) (after : List ℕ) → Sending due room sent after → (plan : Plan) → plan ≡ ifSent sent (r .plan) → (next : Module) → next ≡ apply (plan .change) m
-      → (links : List ℕ) → links ≡ linksAfter l (heard .«data») (plan .change)
+      → (links : List ℕ) → links ≡ linksAfter l (heard .«data») (plan .writing)
       → Comes (stepBy m l heard room) (record { outcome = plan .outcome; length = lengthOf sent; read = r .read; next = next }) links after
   finished Sent.Short after p plan q next x links w = rw q (rw (rw q at x, rw q at w) (short after p))
   finished (Sent.Whole n) after p plan q next x links w = rw q (whole n next links after (rw q at x) (rw q at w) p)

@@ -14,7 +14,7 @@ use Rattle.reply.specs.Reply.{replyOf}
 use Rattle.results.specs.declared.Outcome.{Outcome}
 use Rattle.results.specs.Number.{numberOf}
 use Rattle.module.specs.declared.state.Module.{Module}
-use Rattle.module.specs.declared.change.Change.{Change}
+use Rattle.module.specs.declared.plan.Writing.{Writing}
 use Rattle.module.specs.declared.plan.Plan.{Plan}
 use Rattle.module.specs.Change.{apply}
 use Rattle.module.specs.Plan.{refused}
@@ -31,15 +31,10 @@ pub record Step : Type 0 where
   pub links : List ℕ
   pub room : List ℕ
 
--- link memory after a change: the bytes of a write are those from Data 6 on
-abbrev pub linksAfter : List ℕ → List ℕ → Change → List ℕ
-linksAfter l d Change.Nothing = l
-linksAfter l d (Change.Flags x) = l
-linksAfter l d (Change.Led x) = l
-linksAfter l d (Change.X10 house unit) = l
-linksAfter l d (Change.Lamp x) = l
-linksAfter l d (Change.Sockets x) = l
-linksAfter l d (Change.Record k n) = writtenIfThere l k (take n (drop 5 d))
+-- link memory afterwards: the bytes of a write are those from Data 6 on
+abbrev pub linksAfter : List ℕ → List ℕ → Writing → List ℕ
+linksAfter l d Writing.Nothing = l
+linksAfter l d (Writing.Record k n) = writtenIfThere l k (take n (drop 5 d))
 
 -- result 5: nothing is sent and nothing altered; the count of the search is kept
 abbrev pub shortOf : Module → List ℕ → List ℕ → Ruling → Step
@@ -53,7 +48,7 @@ servedOf m l d room reply r =
       reply = reply;
       read = r .read;
       next = apply (r .plan .change) m;
-      links = linksAfter l d (r .plan .change);
+      links = linksAfter l d (r .plan .writing);
       room = laid reply room;
     }
 

@@ -1,8 +1,8 @@
 // One message to one module. Nothing is written before the whole reply is known to fit.
 use decide::rule::ruling_by;
 use links::write::write;
-use module::change::Change;
 use module::plan::Plan;
+use module::plan::Writing;
 use module::plan::refused;
 use module::state::Module;
 use reply::due::Due;
@@ -73,17 +73,12 @@ fn length_of(sent: Sent) -> usize
 
 // The one place that alters link memory. The bytes of a write are those from Data 6 on.
 fn write_planned(links: &mut [u8], data: [u8; 14], plan: Plan)
-    ensures { λ _. ⌜ now (links .exit) ≡ linksAfter (now (links .entry)) «data» (plan .change) ⌝ }
+    ensures { λ _. ⌜ now (links .exit) ≡ linksAfter (now (links .entry)) «data» (plan .writing) ⌝ }
 {
-    let change = plan.change;
-    match change {
-        Change::Nothing => {}
-        Change::Flags(_) => {}
-        Change::Led(_) => {}
-        Change::X10(_, _) => {}
-        Change::Lamp(_) => {}
-        Change::Sockets(_) => {}
-        Change::Record(k, n) => {
+    let writing = plan.writing;
+    match writing {
+        Writing::Nothing => {}
+        Writing::Record(k, n) => {
             if n <= 8 {
                 let end = 5 + n;
                 write(links, k, &data[5..end]);

@@ -5,12 +5,10 @@ use lib.Dec.{leb}
 use Rattle.basis.specs.Choice.{choose}
 use Rattle.basis.specs.Table.{Row, among, _⇒_}
 use Rattle.wire.specs.declared.request.Request.{Request}
-use Rattle.wire.specs.declared.command.LoadCommand.{LoadCommand}
-use Rattle.module.specs.declared.state.Lamp.{Lamp}
-use Rattle.module.specs.declared.change.Change.{Change}
-use Rattle.module.specs.declared.deed.Deed.{Deed}
-use Rattle.module.specs.Deed.{acked, showing}
-use Rattle.dimmer.specs.Lamp.{withLevel}
+use Rattle.load.specs.declared.entry.Entry.{Entry}
+use Rattle.load.specs.declared.state.Lamp.{Lamp}
+use Rattle.dimmer.specs.declared.lamp.LampEntry.{LampEntry}
+use Rattle.dimmer.specs.Lamp.{withLevel, becomes, stays}
 
 -- level plus 8, at most FF; level minus 8, at least 00
 abbrev pub raised : ℕ → ℕ
@@ -31,32 +29,38 @@ abbrev pub levelOf : ℕ → ℕ
 levelOf p = (255 * p + 50) / 100
 
 -- the lamp takes a level
-abbrev pub atLevel : Lamp → ℕ → Deed
-atLevel lamp level = acked (Change.Lamp (withLevel level lamp))
+abbrev pub atLevel : Lamp → ℕ → LampEntry
+atLevel lamp level = becomes (withLevel level lamp)
 
--- 19: the ACK's Command 1 is the delta; Command 2 says what is shown
-abbrev pub statuses : Lamp → List (Row Deed)
+-- 19: Command 2 says what is shown, after the delta
+abbrev pub statuses : Lamp → List (Row LampEntry)
 statuses lamp =
-    0x00 ⇒ showing (lamp .level) ∷
-    0x06 ⇒ showing (percentOf (lamp .level)) ∷
+    0x00 ⇒ stays lamp (Entry.Shows (lamp .level)) ∷
+    0x06 ⇒ stays lamp (Entry.Shows (percentOf (lamp .level))) ∷
     []
 
-unfoldable pub statusDeed : Lamp → ℕ → Deed
-statusDeed lamp command2 = among command2 Deed.Unlisted (statuses lamp)
+unfoldable pub statusEntry : Lamp → ℕ → LampEntry
+statusEntry lamp command2 = among command2 (stays lamp Entry.Unlisted) (statuses lamp)
 
 -- 39: Command 2 in 00 to 64
-unfoldable pub percentDeed : Lamp → ℕ → Deed
-percentDeed lamp command2 = choose (leb command2 0x64) (atLevel lamp (levelOf command2)) Deed.Unlisted
+unfoldable pub percentEntry : Lamp → ℕ → LampEntry
+percentEntry lamp command2 = choose (leb command2 0x64) (atLevel lamp (levelOf command2)) (stays lamp Entry.Unlisted)
 
-abbrev pub loadDeed : Lamp → Request → LoadCommand → Deed
-loadDeed lamp r LoadCommand.On = atLevel lamp (r .command2)
-loadDeed lamp r LoadCommand.OnFast = atLevel lamp (r .command2)
-loadDeed lamp r LoadCommand.Instant = atLevel lamp (r .command2)
-loadDeed lamp r LoadCommand.Off = atLevel lamp 0x00
-loadDeed lamp r LoadCommand.OffFast = atLevel lamp 0x00
-loadDeed lamp r LoadCommand.Brighten = atLevel lamp (raised (lamp .level))
-loadDeed lamp r LoadCommand.Dim = atLevel lamp (lowered (lamp .level))
-loadDeed lamp r LoadCommand.Status = statusDeed lamp (r .command2)
-loadDeed lamp r LoadCommand.OnAtRamp = atLevel lamp (highThenF (r .command2))
-loadDeed lamp r LoadCommand.OffAtRamp = atLevel lamp 0x00
-loadDeed lamp r LoadCommand.Percent = percentDeed lamp (r .command2)
+-- Command 1 decides, then Command 2 where the row says so
+abbrev pub loadRows : Lamp → ℕ → List (Row LampEntry)
+loadRows lamp command2 =
+    0x11 ⇒ atLevel lamp command2 ∷
+    0x12 ⇒ atLevel lamp command2 ∷
+    0x21 ⇒ atLevel lamp command2 ∷
+    0x13 ⇒ atLevel lamp 0x00 ∷
+    0x14 ⇒ atLevel lamp 0x00 ∷
+    0x15 ⇒ atLevel lamp (raised (lamp .level)) ∷
+    0x16 ⇒ atLevel lamp (lowered (lamp .level)) ∷
+    0x19 ⇒ statusEntry lamp command2 ∷
+    0x2e ⇒ atLevel lamp (highThenF command2) ∷
+    0x2f ⇒ atLevel lamp 0x00 ∷
+    0x39 ⇒ percentEntry lamp command2 ∷
+    []
+
+unfoldable pub loadEntry : Lamp → Request → LampEntry
+loadEntry lamp r = among (r .command1) (stays lamp Entry.Unlisted) (loadRows lamp (r .command2))

@@ -5,27 +5,25 @@ use Rattle.wire.specs.declared.request.Request.{Request}
 use Rattle.wire.specs.declared.command.Command.{Command}
 use Rattle.wire.specs.declared.command.Standard.{Standard}
 use Rattle.wire.specs.declared.command.Extended.{Extended}
-use Rattle.module.specs.declared.state.Lamp.{Lamp}
-use Rattle.module.specs.declared.state.Module.{Module}
-use Rattle.module.specs.declared.deed.Entry.{Entry}
-use Rattle.dimmer.specs.Load.{loadDeed}
+use Rattle.load.specs.declared.entry.Entry.{Entry}
+use Rattle.load.specs.declared.state.Lamp.{Lamp}
+use Rattle.dimmer.specs.declared.lamp.LampEntry.{LampEntry}
+use Rattle.dimmer.specs.Lamp.{stays}
+use Rattle.dimmer.specs.Load.{loadEntry}
 use Rattle.dimmer.specs.Properties.{propertiesEntry}
 
-abbrev pub standardEntry : Lamp → Request → Standard → Entry
-standardEntry lamp r (Standard.Open command) = Entry.Shared
-standardEntry lamp r (Standard.Module command) = Entry.Shared
-standardEntry lamp r (Standard.Load command) = Entry.Own (loadDeed lamp r command)
-standardEntry lamp r Standard.Unlisted = Entry.Shared
+abbrev pub standardEntry : Lamp → Request → Standard → LampEntry
+standardEntry lamp r (Standard.Open command) = stays lamp Entry.Shared
+standardEntry lamp r (Standard.Module command) = stays lamp Entry.Shared
+standardEntry lamp r Standard.Load = loadEntry lamp r
 
-abbrev pub extendedEntry : Module → Lamp → Request → List ℕ → Extended → Entry
-extendedEntry m lamp r d Extended.On = Entry.Shared
-extendedEntry m lamp r d Extended.Off = Entry.Shared
-extendedEntry m lamp r d Extended.SetFlags = Entry.Shared
-extendedEntry m lamp r d Extended.Properties = propertiesEntry m lamp r d
-extendedEntry m lamp r d Extended.Database = Entry.Shared
-extendedEntry m lamp r d Extended.Unlisted = Entry.Shared
+abbrev pub extendedEntry : Lamp → Request → List ℕ → Extended → LampEntry
+extendedEntry lamp r d Extended.SetFlags = stays lamp Entry.Shared
+extendedEntry lamp r d Extended.Properties = propertiesEntry lamp r d
+extendedEntry lamp r d Extended.Database = stays lamp Entry.Shared
+extendedEntry lamp r d Extended.Load = stays lamp Entry.Unlisted
 
--- for a module whose load is this lamp
-abbrev pub entryOf : Module → Lamp → Request → List ℕ → Command → Entry
-entryOf m lamp r d (Command.Standard command) = standardEntry lamp r command
-entryOf m lamp r d (Command.Extended command) = extendedEntry m lamp r d command
+-- with the data bytes beside the command
+abbrev pub entryOf : Lamp → Request → List ℕ → Command → LampEntry
+entryOf lamp r d (Command.Standard command) = standardEntry lamp r command
+entryOf lamp r d (Command.Extended command) = extendedEntry lamp r d command

@@ -1,24 +1,37 @@
 // What the deciding record of a group does to a dimmer's lamp ("Groups").
 use links::memory::Link;
-use module::change::Change;
-use module::deed::GroupDeed;
-use module::state::Lamp;
+use load::state::Lamp;
 use wire::command::GroupCommand;
 ghost use mathlib.Core.Path.{_≡_};
-ghost use Rattle.dimmer.specs.Groups.{groupDeed};
+ghost use Rattle.dimmer.specs.Groups.{groupOf};
 
-pub fn group_deed(lamp: Lamp, command: GroupCommand, link: Link) -> GroupDeed
-    ensures { λ deed. ⌜ deed ≡ groupDeed lamp command link ⌝ }
+// The lamp afterwards, and whether the record fits a row.
+pub struct LampGroup {
+    pub lamp: Lamp,
+    pub is_listed: bool,
+}
+
+pub fn group_of(lamp: Lamp, command: GroupCommand, link: Link) -> LampGroup
+    ensures { λ r. ⌜ r ≡ groupOf lamp command link ⌝ }
 {
     match command {
-        GroupCommand::On => GroupDeed::Done(Change::Lamp(Lamp {
-            level: link.d1,
-            ..lamp
-        })),
-        GroupCommand::Off => GroupDeed::Done(Change::Lamp(Lamp {
-            level: 0x00,
-            ..lamp
-        })),
-        GroupCommand::Unlisted => GroupDeed::Unlisted,
+        GroupCommand::On => LampGroup {
+            lamp: Lamp {
+                level: link.d1,
+                ..lamp
+            },
+            is_listed: true,
+        },
+        GroupCommand::Off => LampGroup {
+            lamp: Lamp {
+                level: 0x00,
+                ..lamp
+            },
+            is_listed: true,
+        },
+        GroupCommand::Unlisted => LampGroup {
+            lamp: lamp,
+            is_listed: false,
+        },
     }
 }

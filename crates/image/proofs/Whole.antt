@@ -12,7 +12,7 @@ use Rattle.basis.specs.Spell.{spell}
 use Rattle.basis.proofs.Spelled.{spelled}
 use Rattle.basis.proofs.Choice.{by}
 use Rattle.basis.proofs.Tests.{both}
-use Rattle.module.specs.declared.state.Load.{Load}
+use Rattle.load.specs.declared.state.Load.{Load}
 use Rattle.module.specs.declared.state.Module.{Module}
 use Rattle.module.specs.Module.{kindOf}
 use Rattle.module.specs.Change.{withLoad}

@@ -10,7 +10,7 @@ use Rattle.basis.specs.Spell.{spell}
 use Rattle.basis.specs.Table.{Row, among, _⇒_}
 use Rattle.wire.specs.Bytes.{addressAt}
 use Rattle.module.specs.declared.state.Identity.{Identity}
-use Rattle.module.specs.declared.state.Load.{Load}
+use Rattle.load.specs.declared.state.Load.{Load}
 use Rattle.module.specs.declared.state.Module.{Module}
 use Rattle.module.specs.Module.{kindOf, freshOutlet}
 use Rattle.image.specs.declared.held.Held.{Held}

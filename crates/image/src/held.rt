@@ -1,9 +1,9 @@
 // The module that an image holds.
+use load::state::Lamp;
+use load::state::Load;
+use load::state::Sockets;
 use module::state::Identity;
-use module::state::Lamp;
-use module::state::Load;
 use module::state::Module;
-use module::state::Sockets;
 use wire::address::Address;
 ghost use mathlib.Core.Path.{_≡_};
 ghost use mathlib.Core.Bool.{true};

@@ -1,9 +1,9 @@
 // What a message may alter goes back into the image; its kind and who it is stay, as no message alters those.
 use crate::held::is_image;
-use module::state::Lamp;
-use module::state::Load;
+use load::state::Lamp;
+use load::state::Load;
+use load::state::Sockets;
 use module::state::Module;
-use module::state::Sockets;
 ghost use mathlib.Core.Path.{_≡_};
 ghost use Prim.Native.Nat.{_+_};
 ghost use lib.ListN.{length};

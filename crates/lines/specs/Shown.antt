@@ -3,7 +3,7 @@ use Prim.Native.Nat.{ℕ}
 use lib.Dec.{ltb}
 use lib.ListN.{getD}
 use Rattle.basis.specs.Choice.{choose}
-use Rattle.module.specs.declared.state.Load.{Load}
+use Rattle.load.specs.declared.state.Load.{Load}
 use Rattle.seating.specs.declared.heed.Seating.{Seating}
 use Rattle.seating.specs.Whom.{blank}
 use Rattle.names.specs.declared.LoadShown.{LoadShown}

@@ -1,6 +1,6 @@
 // What came of a frame, as the screen has it.
 use basis::min;
-use module::state::Load;
+use load::state::Load;
 use module::state::Module;
 use names::LoadShown;
 use seating::heed::Heeded;

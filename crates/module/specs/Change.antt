@@ -1,8 +1,6 @@
 -- What a message changes.
 use Prim.Native.Nat.{ℕ, _+_, _%_}
-use Rattle.module.specs.declared.state.Lamp.{Lamp}
-use Rattle.module.specs.declared.state.Sockets.{Sockets}
-use Rattle.module.specs.declared.state.Load.{Load}
+use Rattle.load.specs.declared.state.Load.{Load}
 use Rattle.module.specs.declared.state.Module.{Module}
 use Rattle.module.specs.declared.change.Change.{Change}
 
@@ -26,21 +24,11 @@ withLoad x m = record { identity = m .identity; flags = m .flags; led = m .led; 
 abbrev pub nextDelta : Module → Module
 nextDelta m = withDelta ((m .delta + 1) % 256) m
 
--- a load with another lamp, or with other sockets; its kind stays
-abbrev pub withLamp : Lamp → Load → Load
-withLamp x (Load.Dimmer lamp) = Load.Dimmer x
-withLamp x (Load.Outlet sockets) = Load.Outlet sockets
-
-abbrev pub withSockets : Sockets → Load → Load
-withSockets x (Load.Dimmer lamp) = Load.Dimmer lamp
-withSockets x (Load.Outlet sockets) = Load.Outlet x
-
 -- the module after a change: its identity stands in none
 abbrev pub apply : Change → Module → Module
 apply Change.Nothing m = m
 apply (Change.Flags x) m = withFlags x m
 apply (Change.Led x) m = withLed x m
 apply (Change.X10 house unit) m = withX10 house unit m
-apply (Change.Lamp x) m = withLoad (withLamp x (m .load)) m
-apply (Change.Sockets x) m = withLoad (withSockets x (m .load)) m
-apply (Change.Record k n) m = nextDelta m
+apply (Change.Load x) m = withLoad x m
+apply Change.NextDelta m = nextDelta m

@@ -1,11 +1,13 @@
 -- What a direct command that is looked at comes to: carried out and ACKed, or not listed.
 use Prim.Native.Nat.{ℕ}
+use mathlib.Core.Bool.{Bool}
 use Rattle.basis.specs.Choice.{choose}
 use Rattle.basis.specs.Numbers.{within}
+use Rattle.load.specs.declared.state.Load.{Load}
 use Rattle.module.specs.declared.change.Change.{Change}
 use Rattle.module.specs.declared.deed.Ack.{Ack}
 use Rattle.module.specs.declared.deed.Deed.{Deed}
-use Rattle.module.specs.declared.deed.Entry.{Entry}
+use Rattle.module.specs.declared.deed.GroupDeed.{GroupDeed}
 
 -- the ACK repeats both commands
 abbrev pub acked : Change → Deed
@@ -19,11 +21,10 @@ telling command2 = Deed.Done Change.Nothing (Ack.Telling command2)
 abbrev pub showing : ℕ → Deed
 showing command2 = Deed.Done Change.Nothing (Ack.AfterDelta command2)
 
--- a change where the number is one of a to b
-unfoldable pub limited : ℕ → ℕ → ℕ → Change → Deed
-limited a b x change = choose (within a b x) (acked change) Deed.Unlisted
+-- listed where the number is one of a to b
+unfoldable pub limited : ℕ → ℕ → ℕ → Deed → Deed
+limited a b x deed = choose (within a b x) deed Deed.Unlisted
 
--- a row of the kind's own, or what every kind does
-abbrev pub settledBy : Entry → Deed → Deed
-settledBy (Entry.Own deed) shared = deed
-settledBy Entry.Shared shared = shared
+-- a group's record that fits a row makes this load of the module's
+unfoldable pub groupedBy : Load → Bool → GroupDeed
+groupedBy load isListed = choose isListed (GroupDeed.Done load) GroupDeed.Unlisted

@@ -1,8 +1,8 @@
 -- The module's values ("The module we simulate"; the outlet by request 1).
 use Prim.Native.Nat.{ℕ}
-use mathlib.Core.Bool.{false}
+use Rattle.load.specs.declared.state.Load.{Load}
+use Rattle.load.specs.Fresh.{freshLamp, freshSockets}
 use Rattle.module.specs.declared.state.Identity.{Identity}
-use Rattle.module.specs.declared.state.Load.{Load}
 use Rattle.module.specs.declared.state.Module.{Module}
 
 -- what every kind starts with: flags 00, LED 3F, X10 20 20, delta 00
@@ -18,13 +18,11 @@ freshWith load i =
       load = load;
     }
 
--- a fresh dimmer has level 00, ramp 1F, on level FF
 abbrev pub freshDimmer : Identity → Module
-freshDimmer = freshWith (Load.Dimmer (record { level = 0x00; ramp = 0x1f; «on_level» = 0xff }))
+freshDimmer = freshWith (Load.Dimmer freshLamp)
 
--- a fresh outlet has both sockets off
 abbrev pub freshOutlet : Identity → Module
-freshOutlet = freshWith (Load.Outlet (record { top = false; bottom = false }))
+freshOutlet = freshWith (Load.Outlet freshSockets)
 
 -- the number of a module's kind, as its image has it: 01 a dimmer, 02 an outlet
 abbrev pub kindOf : Load → ℕ

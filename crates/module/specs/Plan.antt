@@ -11,6 +11,7 @@ use Rattle.module.specs.declared.state.Module.{Module}
 use Rattle.module.specs.declared.change.Change.{Change}
 use Rattle.module.specs.declared.deed.Ack.{Ack}
 use Rattle.module.specs.declared.deed.Deed.{Deed}
+use Rattle.module.specs.declared.plan.Writing.{Writing}
 use Rattle.module.specs.declared.plan.Plan.{Plan}
 
 -- a standard reply to a request
@@ -19,11 +20,15 @@ headed type r command1 command2 = record { «reply_type» = type; to = r .from; 
 
 -- carried out
 abbrev pub done : Change → Due → Plan
-done change due = record { outcome = Outcome.Done; change = change; due = due }
+done change due = record { outcome = Outcome.Done; change = change; writing = Writing.Nothing; due = due }
 
--- refused: nothing changes
+-- carried out: n bytes go over the first ones of record k, and the delta goes up
+abbrev pub wrote : ℕ → ℕ → Due → Plan
+wrote k n due = record { outcome = Outcome.Done; change = Change.NextDelta; writing = Writing.Record k n; due = due }
+
+-- refused: nothing changes, and nothing is written
 abbrev pub refused : Outcome → Due → Plan
-refused outcome due = record { outcome = outcome; change = Change.Nothing; due = due }
+refused outcome due = record { outcome = outcome; change = Change.Nothing; writing = Writing.Nothing; due = due }
 
 -- result 6: a NAK that repeats Command 1, with Command 2 = FF
 abbrev pub unlinked : ReplyType → Request → Plan
@@ -52,4 +57,5 @@ dueOf m r (Ack.WithRecords data1 k count) = Due.WithRecords (ackTo r) data1 k co
 -- what a direct command comes to, as a plan
 abbrev pub deedPlan : Module → Request → Deed → Plan
 deedPlan m r (Deed.Done change ack) = done change (dueOf m r ack)
+deedPlan m r (Deed.Written k n) = wrote k n (Due.Alone (ackTo r))
 deedPlan m r Deed.Unlisted = unlisted ReplyType.Nak r

@@ -1,10 +1,8 @@
-// What a message changes: the one list of it. Who a module is stands in none of its cases.
-use crate::state::Lamp;
-use crate::state::Load;
+// What a message changes in the module: the one list of it. Who a module is stands in none of its cases.
 use crate::state::Module;
-use crate::state::Sockets;
+use load::state::Load;
 ghost use mathlib.Core.Path.{_≡_};
-ghost use Rattle.module.specs.Change.{withLamp, withSockets, apply};
+ghost use Rattle.module.specs.Change.{apply};
 
 pub enum Change {
     Nothing,
@@ -12,15 +10,14 @@ pub enum Change {
     Led(u8),
     // House and unit.
     X10(u8, u8),
-    // Of a module of that kind; no change makes one kind of another.
-    Lamp(Lamp),
-    Sockets(Sockets),
-    // The record, and how many bytes, from Data 6 on, go over its first ones; they stay in the message, since no enum holds an array.
-    Record(usize, usize),
+    // A load of the module's own kind.
+    Load(Load),
+    // By 1, FF to 00: link memory was written.
+    NextDelta,
 }
 
 impl Module {
-    // The module afterwards; a write to link memory moves its delta, FF to 00.
+    // The module afterwards.
     pub fn apply(self, change: Change) -> Module
         ensures { λ r. ⌜ r ≡ apply change self ⌝ }
     {
@@ -36,44 +33,11 @@ impl Module {
                 unit: unit,
                 ..self
             },
-            Change::Lamp(lamp) => {
-                let load = self.load;
-                Module {
-                    load: with_lamp(load, lamp),
-                    ..self
-                }
-            }
-            Change::Sockets(sockets) => {
-                let load = self.load;
-                Module {
-                    load: with_sockets(load, sockets),
-                    ..self
-                }
-            }
-            Change::Record(_, _) => Module {
+            Change::Load(load) => Module { load: load, ..self },
+            Change::NextDelta => Module {
                 delta: ((self.delta as u32 + 1) % 256) as u8,
                 ..self
             },
         }
-    }
-}
-
-// A dimmer's lamp; another kind has none.
-fn with_lamp(load: Load, lamp: Lamp) -> Load
-    ensures { λ r. ⌜ r ≡ withLamp lamp load ⌝ }
-{
-    match load {
-        Load::Dimmer(_) => Load::Dimmer(lamp),
-        Load::Outlet(sockets) => Load::Outlet(sockets),
-    }
-}
-
-// An outlet's sockets; another kind has none.
-fn with_sockets(load: Load, sockets: Sockets) -> Load
-    ensures { λ r. ⌜ r ≡ withSockets sockets load ⌝ }
-{
-    match load {
-        Load::Dimmer(lamp) => Load::Dimmer(lamp),
-        Load::Outlet(_) => Load::Outlet(sockets),
     }
 }

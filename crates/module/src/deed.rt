@@ -1,8 +1,10 @@
-// What a direct command that is looked at comes to: it is carried out and ACKed, or it is not listed. A kind of module can say nothing else.
+// What a direct command that is looked at comes to: it is carried out and ACKed, or it is not listed. Nothing else can be said of it.
 use crate::change::Change;
+use load::entry::Entry;
+use load::state::Load;
 use reply::due::DataBytes;
 ghost use mathlib.Core.Path.{_≡_};
-ghost use Rattle.module.specs.Deed.{acked, telling, showing, limited};
+ghost use Rattle.module.specs.Deed.{acked, telling, showing, limited, groupedBy};
 
 // What the ACK says.
 pub enum Ack {
@@ -21,19 +23,21 @@ pub enum Ack {
 
 pub enum Deed {
     Done(Change, Ack),
+    // Over the first bytes of this record go so many of those from Data 6 on; the ACK repeats both commands.
+    Written(usize, usize),
     // Result 7.
     Unlisted,
 }
 
-// What a kind's own table has for a command: a row of its own, or what every kind does.
-pub enum Entry {
-    Own(Deed),
-    Shared,
+// What the table of the module's kind has for a command, and the load afterwards.
+pub struct LoadEntry {
+    pub load: Load,
+    pub entry: Entry,
 }
 
-// What the deciding record of a group brings about: a change, or nothing that the kind lists ("Groups").
+// What the deciding record of a group brings about: another load, or nothing that the kind lists ("Groups").
 pub enum GroupDeed {
-    Done(Change),
+    Done(Load),
     Unlisted,
 }
 
@@ -58,13 +62,24 @@ pub fn showing(command2: u8) -> Deed
     Deed::Done(Change::Nothing, Ack::AfterDelta(command2))
 }
 
-// A change where the number is one of `low` to `high`.
-pub fn limited(low: u8, high: u8, x: u8, change: Change) -> Deed
-    ensures { λ r. ⌜ r ≡ limited low high x change ⌝ }
+// Listed where the number is one of `low` to `high`.
+pub fn limited(low: u8, high: u8, x: u8, deed: Deed) -> Deed
+    ensures { λ r. ⌜ r ≡ limited low high x deed ⌝ }
 {
     if (low <= x) & (x <= high) {
-        acked(change)
+        deed
     } else {
         Deed::Unlisted
+    }
+}
+
+// The load afterwards, where the record fits a row.
+pub fn grouped_by(load: Load, is_listed: bool) -> GroupDeed
+    ensures { λ r. ⌜ r ≡ groupedBy load «is_listed» ⌝ }
+{
+    if is_listed {
+        GroupDeed::Done(load)
+    } else {
+        GroupDeed::Unlisted
     }
 }

@@ -11,12 +11,20 @@ use results::Outcome;
 use wire::address::Address;
 use wire::request::Request;
 ghost use mathlib.Core.Path.{_≡_};
-ghost use Rattle.module.specs.Plan.{headed, done, refused, unlinked, unlisted, idOf, dueOf, deedPlan};
+ghost use Rattle.module.specs.Plan.{headed, done, wrote, refused, unlinked, unlisted, idOf, dueOf, deedPlan};
 
 pub struct Plan {
     pub outcome: Outcome,
     pub change: Change,
+    pub writing: Writing,
     pub due: Due,
+}
+
+// What is written to link memory.
+pub enum Writing {
+    Nothing,
+    // The record, and how many bytes, from Data 6 on, go over its first ones; they stay in the message, since no enum holds an array.
+    Record(usize, usize),
 }
 
 // A standard reply to a request.
@@ -40,17 +48,31 @@ pub fn done(change: Change, due: Due) -> Plan
     Plan {
         outcome: Outcome::Done,
         change: change,
+        writing: Writing::Nothing,
         due: due,
     }
 }
 
-// Refused: nothing changes.
+// Carried out, and link memory is written.
+pub fn wrote(k: usize, n: usize, due: Due) -> Plan
+    ensures { λ r. ⌜ r ≡ wrote k n due ⌝ }
+{
+    Plan {
+        outcome: Outcome::Done,
+        change: Change::NextDelta,
+        writing: Writing::Record(k, n),
+        due: due,
+    }
+}
+
+// Refused: nothing changes, and nothing is written.
 pub fn refused(outcome: Outcome, due: Due) -> Plan
     ensures { λ r. ⌜ r ≡ refused outcome due ⌝ }
 {
     Plan {
         outcome: outcome,
         change: Change::Nothing,
+        writing: Writing::Nothing,
         due: due,
     }
 }
@@ -81,6 +103,7 @@ pub fn deed_plan(m: Module, r: Request, deed: Deed) -> Plan
 {
     match deed {
         Deed::Done(change, ack) => done(change, due_of(m, r, ack)),
+        Deed::Written(k, n) => wrote(k, n, due_of(m, r, Ack::Repeated)),
         Deed::Unlisted => unlisted(ReplyType::Nak, r),
     }
 }

@@ -1,4 +1,7 @@
 // One module, as values: what every kind has, and its load ("The module we simulate").
+use load::state::Load;
+use load::state::fresh_lamp;
+use load::state::fresh_sockets;
 use wire::address::Address;
 ghost use mathlib.Core.Path.{_≡_};
 ghost use Rattle.module.specs.Module.{freshWith, freshDimmer, freshOutlet};
@@ -11,24 +14,6 @@ pub struct Identity {
     pub revision: u8,
 }
 
-// What hangs on a module, by its kind.
-pub enum Load {
-    Dimmer(Lamp),
-    Outlet(Sockets),
-}
-
-pub struct Lamp {
-    pub level: u8,
-    pub ramp: u8,
-    pub on_level: u8,
-}
-
-// Each on or off.
-pub struct Sockets {
-    pub top: bool,
-    pub bottom: bool,
-}
-
 pub struct Module {
     pub identity: Identity,
     pub flags: u8,
@@ -39,14 +24,8 @@ pub struct Module {
     pub load: Load,
 }
 
-// What a fresh module starts with.
-pub const FRESH_LEVEL: u8 = 0x00;
-
+// What a fresh module of any kind starts with.
 pub const FRESH_FLAGS: u8 = 0x00;
-
-pub const FRESH_RAMP: u8 = 0x1f;
-
-pub const FRESH_ON_LEVEL: u8 = 0xff;
 
 pub const FRESH_LED: u8 = 0x3f;
 
@@ -56,36 +35,19 @@ pub const FRESH_UNIT: u8 = 0x20;
 
 pub const FRESH_DELTA: u8 = 0x00;
 
-pub const FRESH_TOP: bool = false;
-
-pub const FRESH_BOTTOM: bool = false;
-
 impl Module {
     // A fresh dimmer of an identity.
     pub fn fresh_dimmer(identity: Identity) -> Module
         ensures { λ r. ⌜ r ≡ freshDimmer identity ⌝ }
     {
-        fresh(
-            identity,
-            Load::Dimmer(Lamp {
-                level: FRESH_LEVEL,
-                ramp: FRESH_RAMP,
-                on_level: FRESH_ON_LEVEL,
-            }),
-        )
+        fresh(identity, Load::Dimmer(fresh_lamp()))
     }
 
     // A fresh outlet of an identity.
     pub fn fresh_outlet(identity: Identity) -> Module
         ensures { λ r. ⌜ r ≡ freshOutlet identity ⌝ }
     {
-        fresh(
-            identity,
-            Load::Outlet(Sockets {
-                top: FRESH_TOP,
-                bottom: FRESH_BOTTOM,
-            }),
-        )
+        fresh(identity, Load::Outlet(fresh_sockets()))
     }
 }
 

@@ -1,10 +1,9 @@
-// What a message asks for, by the kinds and commands of `wire`. Every variant is listed and no arm takes the rest, so that a
-// command that `wire` gains is named here too, or nothing compiles.
+// What a message asks for: by the kinds and commands of `wire`, of which every variant is listed, and a command to a load by its byte, as the
+// tables of the kinds list it.
 use letters::put;
 use wire::command::Command;
 use wire::command::Extended;
 use wire::command::GroupCommand;
-use wire::command::LoadCommand;
 use wire::command::ModuleCommand;
 use wire::command::OpenCommand;
 use wire::command::Standard;
@@ -36,30 +35,35 @@ pub fn put_name(line: &mut [u8], at: usize, kind: MessageKind, load: LoadShown) 
     ensures { λ r. ⌜ Counts r (now (line .exit)) ⌝ }
 {
     match kind {
-        MessageKind::Direct(_, command) => put_direct(line, at, command, load),
+        MessageKind::Direct(r, command) => put_direct(line, at, r.command1, command, load),
         MessageKind::Cleanup(_, command) => put_group_command(line, at, command),
         MessageKind::Broadcast(_, _, command) => put_group_command(line, at, command),
         MessageKind::Foreign => put(line, at, b""),
     }
 }
 
-fn put_direct(line: &mut [u8], at: usize, command: Command, load: LoadShown) -> usize
+fn put_direct(line: &mut [u8], at: usize, command1: u8, command: Command, load: LoadShown) -> usize
     ensures { λ r. ⌜ Counts r (now (line .exit)) ⌝ }
 {
     match command {
-        Command::Standard(standard) => put_standard(line, at, standard, load),
-        Command::Extended(extended) => put_extended(line, at, extended, load),
+        Command::Standard(standard) => put_standard(line, at, command1, standard, load),
+        Command::Extended(extended) => put_extended(line, at, command1, extended, load),
     }
 }
 
-fn put_standard(line: &mut [u8], at: usize, command: Standard, load: LoadShown) -> usize
+fn put_standard(
+    line: &mut [u8],
+    at: usize,
+    command1: u8,
+    command: Standard,
+    load: LoadShown,
+) -> usize
     ensures { λ r. ⌜ Counts r (now (line .exit)) ⌝ }
 {
     match command {
         Standard::Open(open) => put_open_command(line, at, open),
         Standard::Module(common) => put_module_command(line, at, common),
-        Standard::Load(own) => put_load_command(line, at, own, load),
-        Standard::Unlisted => put_unlisted(line, at),
+        Standard::Load => put_load_command(line, at, command1, load),
     }
 }
 
@@ -82,34 +86,50 @@ fn put_module_command(line: &mut [u8], at: usize, command: ModuleCommand) -> usi
     }
 }
 
-fn put_load_command(line: &mut [u8], at: usize, command: LoadCommand, load: LoadShown) -> usize
+fn put_load_command(line: &mut [u8], at: usize, command1: u8, load: LoadShown) -> usize
     ensures { λ r. ⌜ Counts r (now (line .exit)) ⌝ }
 {
-    match command {
-        LoadCommand::On => put(line, at, b" on"),
-        LoadCommand::OnFast => put_for_lamp(line, at, load, b" fast on"),
-        LoadCommand::Instant => put_for_lamp(line, at, load, b" set level"),
-        LoadCommand::Off => put(line, at, b" off"),
-        LoadCommand::OffFast => put_for_lamp(line, at, load, b" fast off"),
-        LoadCommand::Brighten => put_for_lamp(line, at, load, b" brighten"),
-        LoadCommand::Dim => put_for_lamp(line, at, load, b" dim"),
-        LoadCommand::Status => put(line, at, b" status"),
-        LoadCommand::OnAtRamp => put_for_lamp(line, at, load, b" on at ramp rate"),
-        LoadCommand::OffAtRamp => put_for_lamp(line, at, load, b" off at ramp rate"),
-        LoadCommand::Percent => put_for_lamp(line, at, load, b" set per cent"),
+    match command1 {
+        0x11 => put(line, at, b" on"),
+        0x12 => put_for_lamp(line, at, load, b" fast on"),
+        0x21 => put_for_lamp(line, at, load, b" set level"),
+        0x13 => put(line, at, b" off"),
+        0x14 => put_for_lamp(line, at, load, b" fast off"),
+        0x15 => put_for_lamp(line, at, load, b" brighten"),
+        0x16 => put_for_lamp(line, at, load, b" dim"),
+        0x19 => put(line, at, b" status"),
+        0x2e => put_for_lamp(line, at, load, b" on at ramp rate"),
+        0x2f => put_for_lamp(line, at, load, b" off at ramp rate"),
+        0x39 => put_for_lamp(line, at, load, b" set per cent"),
+        _ => put_unlisted(line, at),
     }
 }
 
-fn put_extended(line: &mut [u8], at: usize, command: Extended, load: LoadShown) -> usize
+fn put_extended(
+    line: &mut [u8],
+    at: usize,
+    command1: u8,
+    command: Extended,
+    load: LoadShown,
+) -> usize
     ensures { λ r. ⌜ Counts r (now (line .exit)) ⌝ }
 {
     match command {
-        Extended::On => put_for_sockets(line, at, load, b" on"),
-        Extended::Off => put_for_sockets(line, at, load, b" off"),
         Extended::SetFlags => put(line, at, b" set flags"),
         Extended::Properties => put(line, at, b" properties"),
         Extended::Database => put(line, at, b" database"),
-        Extended::Unlisted => put_unlisted(line, at),
+        Extended::Load => put_second_command(line, at, command1, load),
+    }
+}
+
+// Those to the second socket of an outlet.
+fn put_second_command(line: &mut [u8], at: usize, command1: u8, load: LoadShown) -> usize
+    ensures { λ r. ⌜ Counts r (now (line .exit)) ⌝ }
+{
+    match command1 {
+        0x11 => put_for_sockets(line, at, load, b" on"),
+        0x13 => put_for_sockets(line, at, load, b" off"),
+        _ => put_unlisted(line, at),
     }
 }
 

@@ -1,28 +1,30 @@
 -- What the deciding record does to an outlet: its D3 names the socket.
 use Prim.Native.Nat.{ℕ}
-use mathlib.Core.Bool.{Bool, false, not}
+use mathlib.Core.Bool.{Bool, true, false, not}
 use mathlib.Core.List.{List, [], _∷_}
 use lib.Dec.{eqb}
 use Rattle.basis.specs.Table.{Row, among, _⇒_}
 use Rattle.wire.specs.declared.command.GroupCommand.{GroupCommand}
 use Rattle.links.specs.declared.memory.Link.{Link}
-use Rattle.module.specs.declared.state.Sockets.{Sockets}
-use Rattle.module.specs.declared.change.Change.{Change}
-use Rattle.module.specs.declared.deed.GroupDeed.{GroupDeed}
+use Rattle.load.specs.declared.state.Sockets.{Sockets}
+use Rattle.outlet.specs.declared.groups.SocketsGroup.{SocketsGroup}
 use Rattle.outlet.specs.Sockets.{withTop, withBottom}
 
+abbrev pub unfit : Sockets → SocketsGroup
+unfit sockets = record { sockets = sockets; «is_listed» = false }
+
 -- 01 top, 02 bottom
-abbrev pub named : Sockets → Bool → List (Row GroupDeed)
-named sockets on =
-    0x01 ⇒ GroupDeed.Done (Change.Sockets (withTop on sockets)) ∷
-    0x02 ⇒ GroupDeed.Done (Change.Sockets (withBottom on sockets)) ∷
+abbrev pub socketRows : Sockets → Bool → List (Row SocketsGroup)
+socketRows sockets on =
+    0x01 ⇒ (record { sockets = withTop on sockets; «is_listed» = true }) ∷
+    0x02 ⇒ (record { sockets = withBottom on sockets; «is_listed» = true }) ∷
     []
 
-unfoldable pub socketDeed : Sockets → ℕ → Bool → GroupDeed
-socketDeed sockets d3 on = among d3 GroupDeed.Unlisted (named sockets on)
+unfoldable pub socketGroup : Sockets → ℕ → Bool → SocketsGroup
+socketGroup sockets d3 on = among d3 (unfit sockets) (socketRows sockets on)
 
 -- 11 and 12: off where D1 = 00, else on; 13 and 14: off
-abbrev pub groupDeed : Sockets → GroupCommand → Link → GroupDeed
-groupDeed sockets GroupCommand.On link = socketDeed sockets (link .d3) (not (eqb (link .d1) 0x00))
-groupDeed sockets GroupCommand.Off link = socketDeed sockets (link .d3) false
-groupDeed sockets GroupCommand.Unlisted link = GroupDeed.Unlisted
+abbrev pub groupOf : Sockets → GroupCommand → Link → SocketsGroup
+groupOf sockets GroupCommand.On link = socketGroup sockets (link .d3) (not (eqb (link .d1) 0x00))
+groupOf sockets GroupCommand.Off link = socketGroup sockets (link .d3) false
+groupOf sockets GroupCommand.Unlisted link = unfit sockets

@@ -5,14 +5,16 @@ use lib.Dec.{eqb}
 use Rattle.basis.specs.Choice.{choose}
 use Rattle.wire.specs.declared.request.Request.{Request}
 use Rattle.wire.specs.Bytes.{dataIn}
-use Rattle.module.specs.declared.state.Module.{Module}
-use Rattle.module.specs.declared.deed.Entry.{Entry}
-use Rattle.shared.specs.Extended.{shownDeed}
+use Rattle.load.specs.declared.entry.Entry.{Entry}
+use Rattle.load.specs.declared.state.Sockets.{Sockets}
+use Rattle.outlet.specs.declared.sockets.SocketsEntry.{SocketsEntry}
+use Rattle.outlet.specs.Sockets.{stays}
 
 -- Data 2 = 00 is Get Properties; what else there is, every kind has
-unfoldable pub propertyEntry : Module → List ℕ → Entry
-propertyEntry m d = choose (eqb (dataIn d 2) 0x00) (Entry.Own (shownDeed m (dataIn d 1) 0x1f 0xff)) Entry.Shared
+unfoldable pub propertyEntry : Sockets → List ℕ → SocketsEntry
+propertyEntry sockets d =
+    choose (eqb (dataIn d 2) 0x00) (stays sockets (Entry.Shown (record { ramp = 0x1f; «on_level» = 0xff }))) (stays sockets Entry.Shared)
 
 -- it needs Command 2 = 00
-unfoldable pub propertiesEntry : Module → Request → List ℕ → Entry
-propertiesEntry m r d = choose (eqb (r .command2) 0x00) (propertyEntry m d) Entry.Shared
+unfoldable pub propertiesEntry : Sockets → Request → List ℕ → SocketsEntry
+propertiesEntry sockets r d = choose (eqb (r .command2) 0x00) (propertyEntry sockets d) (stays sockets Entry.Shared)

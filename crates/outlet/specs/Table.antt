@@ -1,32 +1,29 @@
 -- An outlet's own rows.
 use Prim.Native.Nat.{ℕ}
-use mathlib.Core.Bool.{true, false}
 use mathlib.Core.List.{List}
 use Rattle.wire.specs.declared.request.Request.{Request}
 use Rattle.wire.specs.declared.command.Command.{Command}
 use Rattle.wire.specs.declared.command.Standard.{Standard}
 use Rattle.wire.specs.declared.command.Extended.{Extended}
-use Rattle.module.specs.declared.state.Sockets.{Sockets}
-use Rattle.module.specs.declared.state.Module.{Module}
-use Rattle.module.specs.declared.deed.Entry.{Entry}
-use Rattle.outlet.specs.Sockets.{loadDeed, secondDeed}
+use Rattle.load.specs.declared.entry.Entry.{Entry}
+use Rattle.load.specs.declared.state.Sockets.{Sockets}
+use Rattle.outlet.specs.declared.sockets.SocketsEntry.{SocketsEntry}
+use Rattle.outlet.specs.Sockets.{stays}
+use Rattle.outlet.specs.Load.{loadEntry, secondEntry}
 use Rattle.outlet.specs.Properties.{propertiesEntry}
 
-abbrev pub standardEntry : Sockets → Request → Standard → Entry
-standardEntry sockets r (Standard.Open command) = Entry.Shared
-standardEntry sockets r (Standard.Module command) = Entry.Shared
-standardEntry sockets r (Standard.Load command) = Entry.Own (loadDeed sockets r command)
-standardEntry sockets r Standard.Unlisted = Entry.Shared
+abbrev pub standardEntry : Sockets → Request → Standard → SocketsEntry
+standardEntry sockets r (Standard.Open command) = stays sockets Entry.Shared
+standardEntry sockets r (Standard.Module command) = stays sockets Entry.Shared
+standardEntry sockets r Standard.Load = loadEntry sockets r
 
-abbrev pub extendedEntry : Module → Sockets → Request → List ℕ → Extended → Entry
-extendedEntry m sockets r d Extended.On = Entry.Own (secondDeed sockets d true)
-extendedEntry m sockets r d Extended.Off = Entry.Own (secondDeed sockets d false)
-extendedEntry m sockets r d Extended.SetFlags = Entry.Shared
-extendedEntry m sockets r d Extended.Properties = propertiesEntry m r d
-extendedEntry m sockets r d Extended.Database = Entry.Shared
-extendedEntry m sockets r d Extended.Unlisted = Entry.Shared
+abbrev pub extendedEntry : Sockets → Request → List ℕ → Extended → SocketsEntry
+extendedEntry sockets r d Extended.SetFlags = stays sockets Entry.Shared
+extendedEntry sockets r d Extended.Properties = propertiesEntry sockets r d
+extendedEntry sockets r d Extended.Database = stays sockets Entry.Shared
+extendedEntry sockets r d Extended.Load = secondEntry sockets r d
 
--- for a module whose load is these sockets
-abbrev pub entryOf : Module → Sockets → Request → List ℕ → Command → Entry
-entryOf m sockets r d (Command.Standard command) = standardEntry sockets r command
-entryOf m sockets r d (Command.Extended command) = extendedEntry m sockets r d command
+-- with the data bytes beside the command
+abbrev pub entryOf : Sockets → Request → List ℕ → Command → SocketsEntry
+entryOf sockets r d (Command.Standard command) = standardEntry sockets r command
+entryOf sockets r d (Command.Extended command) = extendedEntry sockets r d command

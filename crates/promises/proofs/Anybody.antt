@@ -17,7 +17,8 @@ use Rattle.promises.specs.Demand3.{pingOrId}
 use Rattle.promises.specs.Legal.{ping, id-request, sends}
 use Rattle.promises.specs.LegalAny.{Legal, shared}
 use Rattle.promises.specs.Anybody.{Answered, PingAnswered, IdAnswered}
-use Rattle.promises.proofs.Ruled.{commandIn, deedIn, ruled, read-by, unread}
+use Rattle.wire.specs.Asked.{commandIn}
+use Rattle.promises.proofs.Ruled.{deedIn, ruled, read-by, unread}
 use Rattle.promises.proofs.Stranger.{exempt}
 use Rattle.promises.proofs.Legal.{taken-looked-at}
 

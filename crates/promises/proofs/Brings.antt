@@ -7,9 +7,7 @@ use lib.Dec.{ltb}
 use lib.ListN.{length}
 use borrow.Author.Tests.{lt-ltb, le-ltb}
 use Rattle.basis.specs.Choice.{choose}
-use Rattle.wire.specs.declared.command.Command.{Command}
 use Rattle.wire.specs.Bytes.{dataOf}
-use Rattle.wire.specs.Commands.{standardOf, extendedOf}
 use Rattle.wire.specs.Reading.{wellFormed}
 use Rattle.wire.proofs.Heard.{heard}
 use Rattle.reply.specs.declared.due.Due.{Due}
@@ -22,21 +20,20 @@ use Rattle.module.specs.Change.{apply}
 use Rattle.module.specs.Plan.{refused}
 use Rattle.decide.specs.Ruling.{heardBy, rulingOf}
 use Rattle.device.specs.Step.{linksAfter, stepOf}
-use Rattle.promises.specs.Legal.{Effect, Short, Long, sends, Ends, Taken}
+use Rattle.promises.specs.Legal.{Effect, sends, Ends, Taken}
 use Rattle.promises.specs.Room.{dueTo}
-use Rattle.promises.proofs.Ruled.{commandIn}
 
 pub record Brings (m : Module) (l s : List ℕ) (e : Effect) (p : Plan) : Type 0 where
   pub done : numberOf (p .outcome) ≡ 0
   pub next : apply (p .change) m ≡ e .next
-  pub links : linksAfter l (dataOf s) (p .change) ≡ e .links
+  pub links : linksAfter l (dataOf s) (p .writing) ≡ e .links
   pub reply : replyOf (m .identity .address) l (p .due) ≡ e .reply
 
 -- a plan comes to a number and an effect, whatever message it is for
 pub record Comes (m : Module) (l s : List ℕ) (n : ℕ) (e : Effect) (p : Plan) : Type 0 where
   pub number : numberOf (p .outcome) ≡ n
   pub next : apply (p .change) m ≡ e .next
-  pub links : linksAfter l (heardBy m s .«data») (p .change) ≡ e .links
+  pub links : linksAfter l (heardBy m s .«data») (p .writing) ≡ e .links
   pub reply : replyOf (m .identity .address) l (p .due) ≡ e .reply
 
 module _ (m : Module) (l s : List ℕ) where
@@ -79,12 +76,3 @@ pub numbered-by : (m : Module) (l s room : List ℕ) (o : Outcome) (due : Due) �
     → length (replyOf (m .identity .address) l due) ≤ length room → numberOf (stepOf m l s room .outcome) ≡ numberOf o
 numbered-by m l s room o due is enough =
     ends m l s room (numberOf o) (sends m l (replyOf (m .identity .address) l due)) enough (rw is (refuses m l s o due)) .result
-
--- which command the bytes name
-pub short-command : (s : List ℕ) (c : ℕ) → Short s c → commandIn s ≡ Command.Standard (standardOf c)
-unfolding choose
-short-command s c x = rw (x .0, x .1)
-
-pub long-command : (s : List ℕ) (c : ℕ) → Long s c → commandIn s ≡ Command.Extended (extendedOf c)
-unfolding choose
-long-command s c x = rw (x .0, x .1)

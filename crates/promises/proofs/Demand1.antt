@@ -33,12 +33,12 @@ use Rattle.module.specs.declared.deed.GroupDeed.{GroupDeed}
 use Rattle.module.specs.declared.plan.Plan.{Plan}
 use Rattle.module.specs.Plan.{refused, unlinked, unlisted, deedPlan}
 use Rattle.decide.specs.declared.rule.Ruling.{Ruling}
-use Rattle.decide.specs.Dispatch.{deedOf, groupDeedOf}
+use Rattle.decide.specs.Dispatch.{deedOf, groupDeedBy}
 use Rattle.decide.specs.Groups.{broadcastBy, cleanupBy}
 use Rattle.decide.specs.Decide.{wantedOf, directPlan}
 use Rattle.decide.specs.Ruling.{heardBy, kindRuling, readRuling, rulingBy, rulingOf}
 use Rattle.device.specs.Step.{stepOf, servedOf}
-use Rattle.promises.proofs.Ruled.{commandIn}
+use Rattle.wire.specs.Asked.{commandIn}
 use Rattle.promises.specs.Demand1.{Fate, carried-out, silent, not-linked, not-listed, AlwaysFated, AlwaysNumbered}
 
 -- what a plan is that is not carried out: its refusal, by the type of its NAK and the request
@@ -50,14 +50,15 @@ pub data Fair (type : ReplyType) (r : Request) (p : Plan) : Type 0 where
 
 deed-fair : (m : Module) (r : Request) (deed : Deed) → Fair ReplyType.Nak r (deedPlan m r deed)
 deed-fair m r (Deed.Done change ack) = done refl
+deed-fair m r (Deed.Written k n) = done refl
 deed-fair m r Deed.Unlisted = unknown refl
 
 cleanup-fair : (r : Request) (deed : GroupDeed) → Fair ReplyType.CleanupNak r (cleanupBy r deed)
-cleanup-fair r (GroupDeed.Done change) = done refl
+cleanup-fair r (GroupDeed.Done load) = done refl
 cleanup-fair r GroupDeed.Unlisted = unknown refl
 
 broadcast-fair : (type : ReplyType) (r : Request) (deed : GroupDeed) → Fair type r (broadcastBy deed)
-broadcast-fair type r (GroupDeed.Done change) = done refl
+broadcast-fair type r (GroupDeed.Done load) = done refl
 broadcast-fair type r GroupDeed.Unlisted = mute Outcome.Unconcerned refl refl
 
 -- the NAK's type by the message's
@@ -84,9 +85,9 @@ module _ (m : Module) (l s : List ℕ) where
       (λ e. by P (isCleanup s)
       (λ f. as-cleanup s f
       (by-found (Fair _ _) (found (MessageKind.Cleanup (requestOf s) command)) _ _
-      (λ link. cleanup-fair (requestOf s) (groupDeedOf m command link)) (stranger refl)))
+      (λ link. cleanup-fair (requestOf s) (groupDeedBy (m .load) command link)) (stranger refl)))
       (λ f. by-found (Fair _ _) (found (MessageKind.Broadcast (fromOf s) (toOf s) command)) _ _
-      (λ link. broadcast-fair _ _ (groupDeedOf m command link)) unconcerned))
+      (λ link. broadcast-fair _ _ (groupDeedBy (m .load) command link)) unconcerned))
     where
       command : GroupCommand
       command = groupCommandOf (command1Of s)

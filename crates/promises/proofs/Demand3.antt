@@ -34,7 +34,8 @@ use Rattle.device.specs.Step.{Step, linksAfter, stepOf}
 use Rattle.device.specs.Run.{Call, State, callOf, leftBy, runOf, endOf}
 use Rattle.promises.specs.Room.{dueTo}
 use Rattle.promises.specs.Demand3.{Stranger, pingOrId, NakExactly, LearnsNothing, none, keep, strike, Strikes, AlwaysStrikes, Unmissed}
-use Rattle.promises.proofs.Ruled.{commandIn, deedIn, ruled, ruled-linked}
+use Rattle.wire.specs.Asked.{commandIn}
+use Rattle.promises.proofs.Ruled.{deedIn, ruled, ruled-linked}
 use Rattle.promises.proofs.Stranger.{exempt, strangerBytes, ruling-quiet, unaltered}
 
 -- bytes sent and room afterwards, by the reply that is due
@@ -73,6 +74,7 @@ module _ (m : Module) (l : List ℕ) (r : Request) where
   not-ff (Deed.Done change Ack.WithId) q = ack-or-nak (ap flagsOf q)
   not-ff (Deed.Done change (Ack.WithProperties d)) q = ack-or-nak (ap flagsOf q)
   not-ff (Deed.Done change (Ack.WithRecords data1 k count)) q = ack-or-nak (ap flagsOf q)
+  not-ff (Deed.Written k n) q = ack-or-nak (ap flagsOf q)
   not-ff Deed.Unlisted q = let z : _≡_ {A = ℕ} 0xfb 0xff = ap command2Of q in omega arith
 
 module _ (m : Module) (l s : List ℕ) (f : isFit l ≡ true) (w : wellFormed s (m .identity .address) ≡ true) (d : isDirect s ≡ true) where
@@ -104,7 +106,7 @@ pub still : (s : State) (c : Call) → Stranger (s .links) (c .message) → left
 still s c h =
     let u = unaltered (s .device) (s .links) (c .message) h in
     either (λ (t : Step). leftBy t ≡ s) _ refl
-    (λ i. record { device = apply (u i) (s .device); links = linksAfter (s .links) (heardBy (s .device) (c .message) .«data») (u i) })
+    (λ i. record { device = apply (u .0 i) (s .device); links = linksAfter (s .links) (heardBy (s .device) (c .message) .«data») (u .1 i) })
 
 pub always-strikes : AlwaysStrikes
 always-strikes s [] = record { kept = []; steps = []; struck = none }

@@ -27,37 +27,36 @@ use Rattle.links.specs.Record.{isFit, records}
 use Rattle.links.specs.Name.{placeOf}
 use Rattle.links.specs.Write.{writtenIfThere}
 use Rattle.links.proofs.Named.{first-named, illegal, itself}
-use Rattle.module.specs.declared.state.Load.{Load}
+use Rattle.load.specs.declared.state.Load.{Load}
 use Rattle.module.specs.declared.state.Module.{Module}
-use Rattle.module.specs.declared.change.Change.{Change}
 use Rattle.module.specs.declared.deed.Deed.{Deed}
-use Rattle.module.specs.declared.deed.Entry.{Entry}
 use Rattle.module.specs.declared.plan.Plan.{Plan}
-use Rattle.module.specs.Deed.{limited, settledBy}
+use Rattle.module.specs.declared.plan.Writing.{Writing}
+use Rattle.module.specs.Deed.{limited}
 use Rattle.module.specs.Plan.{deedPlan}
 use Rattle.module.proofs.Limited.{by-limits}
 use Rattle.shared.specs.Extended.{getDeed, setDeed, recordDeed, databaseDeed}
 use Rattle.decide.specs.declared.rule.Ruling.{Ruling}
-use Rattle.decide.specs.Dispatch.{entryBy, deedOf}
+use Rattle.decide.specs.Dispatch.{entryBy, ownDeed, deedOf}
 use Rattle.decide.specs.Decide.{directPlan}
 use Rattle.decide.specs.Ruling.{rulingBy}
 use Rattle.device.specs.Step.{Step, linksAfter, finishOf, stepOf}
-use Rattle.promises.specs.Legal.{Long}
+use Rattle.wire.specs.Asked.{Long}
 use Rattle.promises.specs.Names.{asking, Fits, unchecked, checked, EitherName, NoOtherName}
 use Rattle.promises.proofs.Ruled.{deedIn}
-use Rattle.promises.proofs.Brings.{long-command}
+use Rattle.wire.proofs.CommandBytes.{long-command}
 use Rattle.promises.proofs.Legal.{unlisted}
 
 -- no kind has a database command of its own
 abbrev database : Command
 database = Command.Extended Extended.Database
 
-left : (m : Module) (r : Request) (d : List ℕ) (load : Load) → entryBy m load r d database ≡ Entry.Shared
-left m r d (Load.Dimmer lamp) = refl
-left m r d (Load.Outlet sockets) = refl
-
 deed-of : (m : Module) (r : Request) (d : List ℕ) (n : ℕ) → deedOf m r d n database ≡ databaseDeed r d n
-deed-of m r d n = ap (λ (entry : Entry). settledBy entry (databaseDeed r d n)) (left m r d (m .load))
+deed-of m r d n = by-kind (m .load)
+  where
+    by-kind : (load : Load) → ownDeed m r d n database (entryBy load r d database) ≡ databaseDeed r d n
+    by-kind (Load.Dimmer lamp) = refl
+    by-kind (Load.Outlet sockets) = refl
 
 -- extended but not direct
 unheard : (cleanup broadcast ours : Bool) → (not (false || cleanup || broadcast) || (true && not false)) || ((false || cleanup) && not ours) ≡ true
@@ -122,17 +121,17 @@ module _ (m : Module) (l room h r : List ℕ) (x y : ℕ) where
       beside _≡_ _ (beside _≡_ _ (get-alike place ∙ ap (getDeed e) same) (beside _≡_ _ (set-alike place ∙ ap (setDeed e) same) refl)) refl
 
   -- and what it writes stands before Data 14
-  abbrev Writes : Change → Type 0
-  Writes change = linksAfter l d change ≡ linksAfter l e change
+  abbrev Writes : Writing → Type 0
+  Writes writing = linksAfter l d writing ≡ linksAfter l e writing
 
-  got : (place : Place) → Writes (deedPlan m q (getDeed e place) .change)
+  got : (place : Place) → Writes (deedPlan m q (getDeed e place) .writing)
   got (Place.Record k) = refl
   got Place.Illegal = refl
 
-  set : (place : Place) → Writes (deedPlan m q (setDeed e place) .change)
+  set : (place : Place) → Writes (deedPlan m q (setDeed e place) .writing)
   unfolding limited choose
   set (Place.Record k) =
-      by-limits (λ (deed : Deed). Writes (deedPlan m q deed .change)) 1 8 (dataAt s 5) (Change.Record k (dataAt s 5))
+      by-limits (λ (deed : Deed). Writes (deedPlan m q deed .writing)) 1 8 (dataAt s 5) (Deed.Written k (dataAt s 5))
       (λ a b. rw (le-leb 1 (dataAt s 5) a, le-leb (dataAt s 5) 8 b) (ap (writtenIfThere l k) (early b)))
       refl
     where
@@ -140,10 +139,10 @@ module _ (m : Module) (l room h r : List ℕ) (x y : ℕ) where
       early b = take-append-le (dataAt s 5) (spell 8 1 r) (x ∷ []) b ∙ sym (take-append-le (dataAt s 5) (spell 8 1 r) (y ∷ []) b)
   set Place.Illegal = refl
 
-  written-alike : Writes (deedPlan m q (databaseDeed q e (records l)) .change)
+  written-alike : Writes (deedPlan m q (databaseDeed q e (records l)) .writing)
   unfolding databaseDeed recordDeed
   written-alike =
-      let P : Deed → Type 0 = λ deed. Writes (deedPlan m q deed .change) in
+      let P : Deed → Type 0 = λ deed. Writes (deedPlan m q deed .writing) in
       let place = placeOf (records l) 0x0fff in
       either P _ (either P _ (got place) (either P _ (set place) refl)) refl
 
@@ -158,13 +157,13 @@ module _ (m : Module) (l room h r : List ℕ) (x y : ℕ) where
       = deed-of m q d (records l) ∙ deed-alike ∙ sym (deed-of m q e (records l)) in
       rw deed
 
-  ruled-writes : Writes (rulingBy m l (heardAs e) .plan .change)
+  ruled-writes : Writes (rulingBy m l (heardAs e) .plan .writing)
   unfolding rulingBy directPlan
   ruled-writes =
-      let carried : Writes (deedPlan m q (deedOf m q e (records l) database) .change) = rw (deed-of m q e (records l)) written-alike in
-      either (λ (z : Ruling). Writes (z .plan .change)) (isFit l) (either (λ (z : Plan). Writes (z .change)) _ carried refl) refl
+      let carried : Writes (deedPlan m q (deedOf m q e (records l) database) .writing) = rw (deed-of m q e (records l)) written-alike in
+      either (λ (z : Ruling). Writes (z .plan .writing)) (isFit l) (either (λ (z : Plan). Writes (z .writing)) _ carried refl) refl
 
-  finished : (z : Ruling) → Writes (z .plan .change) → finishOf m l d room z ≡ finishOf m l e room z
+  finished : (z : Ruling) → Writes (z .plan .writing) → finishOf m l d room z ≡ finishOf m l e room z
   finished z w = rw w
 
   abbrev outcome : Message → Step

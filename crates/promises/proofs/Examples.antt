@@ -10,15 +10,15 @@ use Rattle.links.specs.Name.{meant, placeOf}
 use Rattle.links.specs.Search.{stopOf}
 use Rattle.links.specs.Write.{writtenIfThere}
 use Rattle.reply.specs.Records.{recordsFrom, upToMark}
-use Rattle.module.specs.Deed.{limited}
+use Rattle.module.specs.Deed.{limited, groupedBy}
 use Rattle.shared.specs.Standard.{flagsTold}
 use Rattle.shared.specs.Extended.{propertyDeed, propertiesDeed, recordDeed, databaseDeed}
-use Rattle.dimmer.specs.Load.{statusDeed, percentDeed}
-use Rattle.dimmer.specs.Properties.{propertyEntry, propertiesEntry}
-use Rattle.outlet.specs.Sockets.{fullOf, bitOf, secondDeed}
-use Rattle.outlet.specs.Sockets as outlet-sockets
+use Rattle.dimmer.specs.Load.{statusEntry, percentEntry, loadEntry}
+use Rattle.dimmer.specs.Properties.{rampEntry, propertyEntry, propertiesEntry}
+use Rattle.outlet.specs.Load.{fullOf, bitOf, bottomEntry, secondEntry}
+use Rattle.outlet.specs.Load as outlet-load
 use Rattle.outlet.specs.Properties as outlet-properties
-use Rattle.outlet.specs.Groups.{socketDeed}
+use Rattle.outlet.specs.Groups.{socketGroup}
 use Rattle.decide.specs.Decide.{directPlan}
 use Rattle.decide.specs.Ruling.{rulingBy}
 use Rattle.device.specs.Run.{runOf}
@@ -34,32 +34,32 @@ use Rattle.promises.specs.Sequence.{calls, OneAfterTheOther}
 
 pub examples-right : AllRight examples
 unfolding choose firstFrom flagged standards extendeds groupCommandOf kindOf readOf meant placeOf stopOf writtenIfThere recordsFrom
-    upToMark statusDeed flagsTold percentDeed limited propertyDeed propertiesDeed propertyEntry propertiesEntry recordDeed
+    upToMark statusEntry loadEntry flagsTold percentEntry limited groupedBy propertyDeed propertiesDeed rampEntry propertyEntry propertiesEntry recordDeed
     databaseDeed directPlan rulingBy withLevel withRamp fresh us linked stranger zeros first-record other-record memory direct
     long cleanup broadcast reply room head database last examples
 examples-right = refl
 
 pub refusals-right : AllRight refusals
 unfolding choose firstFrom flagged standards extendeds groupCommandOf kindOf readOf meant placeOf stopOf writtenIfThere recordsFrom
-    upToMark statusDeed flagsTold percentDeed limited propertyDeed propertiesDeed propertyEntry propertiesEntry recordDeed
+    upToMark statusEntry loadEntry flagsTold percentEntry limited groupedBy propertyDeed propertiesDeed rampEntry propertyEntry propertiesEntry recordDeed
     databaseDeed directPlan rulingBy withLevel withRamp fresh us linked stranger zeros first-record other-record memory direct
     long cleanup broadcast reply room ping refusals
 refusals-right = refl
 
 pub one-after-the-other : OneAfterTheOther
-unfolding choose firstFrom standards kindOf readOf stopOf statusDeed percentDeed directPlan rulingBy runOf withLevel withRamp
+unfolding choose firstFrom standards kindOf readOf stopOf statusEntry percentEntry loadEntry directPlan rulingBy runOf withLevel withRamp
     fresh us linked zeros first-record memory direct reply room calls
 one-after-the-other = refl
 
 pub outlets-right : AllRight outlets
 unfolding choose firstFrom flagged standards extendeds groupCommandOf kindOf readOf meant placeOf stopOf writtenIfThere recordsFrom upToMark
-    statusDeed outlet-sockets.statusDeed flagsTold limited secondDeed fullOf bitOf outlet-properties.propertyEntry
-    outlet-properties.propertiesEntry propertyDeed propertiesDeed recordDeed databaseDeed socketDeed directPlan rulingBy fresh us linked
+    statusEntry loadEntry outlet-load.statusEntry outlet-load.loadEntry flagsTold limited groupedBy bottomEntry secondEntry fullOf bitOf outlet-properties.propertyEntry
+    outlet-properties.propertiesEntry propertyDeed propertiesDeed recordDeed databaseDeed socketGroup directPlan rulingBy fresh us linked
     stranger zeros first-record other-record memory direct long cleanup broadcast reply room head database outlet switched record-of
     to-top-off to-bottom to-neither group-1 get got id mute answered takes refuses outlets
 outlets-right = refl
 
 pub hops-right : AllRight hop-examples
-unfolding choose firstFrom standards extendeds groupCommandOf kindOf readOf stopOf percentDeed propertyEntry propertiesEntry directPlan
+unfolding choose firstFrom standards extendeds groupCommandOf kindOf readOf stopOf percentEntry loadEntry groupedBy propertyEntry propertiesEntry directPlan
     rulingBy withLevel fresh us linked stranger zeros first-record memory reply room flagged-by shown-by id-by each-type hop-examples
 hops-right = refl

@@ -19,6 +19,9 @@ use Rattle.wire.specs.declared.command.Extended.{Extended}
 use Rattle.wire.specs.declared.command.Command.{Command}
 use Rattle.wire.specs.Bytes.{fromOf, hopsOf, command1Of, command2Of, requestOf, dataAt, dataOf, isExtended, isWhole}
 use Rattle.wire.specs.Commands.{standards, extendeds}
+use Rattle.wire.specs.Asked.{Short, commandIn}
+use Rattle.wire.proofs.CommandBytes.{Told, to-anybody, to-module, to-load, ToldLong, to-set-flags, to-properties, to-database, long-to-load}
+use Rattle.wire.proofs.CommandBytes.{by-command, short-command, long-command}
 use Rattle.wire.proofs.Whole.{by-length}
 use Rattle.links.specs.declared.name.Place.{Place}
 use Rattle.links.specs.Record.{records}
@@ -35,13 +38,10 @@ use Rattle.module.proofs.Limited.{by-limits}
 use Rattle.shared.specs.Standard.{flagsTold, standardDeed}
 use Rattle.shared.specs.Extended.{flagsDeed, propertyDeed, propertiesDeed, getDeed, setDeed, recordDeed, databaseDeed, extendedDeed}
 use Rattle.shared.specs.Table.{sharedDeed}
-use Rattle.promises.specs.Legal.{Effect, Short, shows, upward, Shared, ping, id-request, engine-version, flags, delta, beep}
+use Rattle.promises.specs.Legal.{Effect, shows, upward, Shared, ping, id-request, engine-version, flags, delta, beep}
 use Rattle.promises.specs.Legal.{set-flag, clear-flag, set-x10, set-led, get-database, set-database}
-use Rattle.promises.proofs.Ruled.{commandIn}
-use Rattle.promises.proofs.Brings.{Brings, short-command, long-command}
+use Rattle.promises.proofs.Brings.{Brings}
 use Rattle.promises.proofs.Names.{address, is-there, names-record, is-named}
-use Rattle.promises.proofs.Told.{Told, to-anybody, to-module, to-load, to-nobody}
-use Rattle.promises.proofs.Told.{ToldLong, to-turn-on, to-turn-off, to-set-flags, to-properties, to-database, to-none, by-command}
 
 module _ (m : Module) (l s : List ℕ) where
   abbrev deed : Command → Deed
@@ -114,8 +114,7 @@ module _ (m : Module) (l s : List ℕ) where
     short-judged _ (to-module ModuleCommand.EngineVersion e) = listed _ (engine-version (x, e))
     short-judged _ (to-module ModuleCommand.ReadFlags e) = told-judged (x, e)
     short-judged _ (to-module ModuleCommand.Beep e) = listed _ (beep (x, e))
-    short-judged _ (to-load command e) = other refl
-    short-judged _ to-nobody = other refl
+    short-judged _ to-load = other refl
 
   module _ (x : isExtended s ≡ true) where
     flag-judged : command1Of s ≡ 0x20 → SharedJudged (flagsDeed m (command2Of s))
@@ -163,12 +162,10 @@ module _ (m : Module) (l s : List ℕ) where
       database-judged = by SharedJudged (eqb (command2Of s) 0x00) (λ e. record-judged (eqb-true _ 0x00 e)) (λ _. other refl)
 
     long-judged : (command : Extended) → ToldLong (command1Of s) command → SharedJudged (extendedDeed m (requestOf s) (dataOf s) (records l) command)
-    long-judged _ (to-turn-on e) = other refl
-    long-judged _ (to-turn-off e) = other refl
     long-judged _ (to-set-flags e) = flag-judged e
     long-judged _ (to-properties e) = properties-judged e
     long-judged _ (to-database e) = database-judged e
-    long-judged _ to-none = other refl
+    long-judged _ long-to-load = other refl
 
   pub shared-judged : SharedJudged (deed (commandIn s))
   shared-judged = by-command s (λ (command : Command). SharedJudged (deed command)) long-judged short-judged

@@ -2,12 +2,9 @@
 pub mod Examples
 pub mod Ruled
 pub mod Brings
-pub mod Told
 pub mod Names
 pub mod LegalShared
-pub mod Own
-pub mod LegalDimmer
-pub mod LegalOutlet
+pub mod Leaves
 pub mod Legal
 pub mod EitherName
 pub mod Demand1
@@ -16,8 +13,6 @@ pub mod Stranger
 pub mod Anybody
 pub mod Responders
 pub mod GroupRows
-pub mod GroupsDimmer
-pub mod GroupsOutlet
 pub mod Groups
 pub mod Whens
 pub mod Numbers

@@ -33,13 +33,15 @@ use Rattle.promises.specs.Demand3.{Stranger, pingOrId}
 use Rattle.promises.specs.Legal.{Effect}
 use Rattle.promises.specs.LegalAny.{Legal}
 use Rattle.promises.specs.Responders.{NoResponder}
-use Rattle.promises.specs.Groups.{NoRow, HasRow, GroupCommand1, Unconcerned, unfit-to, unfit-command, no-responder, unfit-record}
+use Rattle.wire.specs.Asked.{GroupCommand1}
+use Rattle.promises.specs.Groups.{NoRow, HasRow, Unconcerned, unfit-to, unfit-command, no-responder, unfit-record}
 use Rattle.promises.specs.Numbers.{When2, When1, When3, When4, When8, When6, not-linked, no-record, When7, not-listed, no-group-command, no-group-row}
 use Rattle.promises.specs.Numbers.{direct, cleanup, broadcast, Sound, IsCarriedOut, Line, two, one, three, four, eight, six, seven, zero}
 use Rattle.promises.specs.Numbers.{Given, fits, five, NumbersGiven, NoOther, LinesHold, OneLine, ElseCarriedOut}
-use Rattle.promises.proofs.Ruled.{commandIn, deedIn, ruled, ruled-linked}
+use Rattle.wire.specs.Asked.{commandIn}
+use Rattle.promises.proofs.Ruled.{deedIn, ruled, ruled-linked}
 use Rattle.promises.proofs.Brings.{Comes, as-done, refuses, ends, ends-short}
-use Rattle.promises.proofs.Legal.{Judged, is-listed, is-other, judged, fulfils}
+use Rattle.promises.proofs.Legal.{Listed, is-listed, is-other, judged, fulfils}
 use Rattle.promises.proofs.Stranger.{exempt}
 use Rattle.promises.proofs.Anybody.{ruled-exempt}
 use Rattle.promises.proofs.Responders.{one-decides, SomeFirst, first-or-none}
@@ -81,7 +83,7 @@ module _ (m : Module) (l s : List ℕ) where
     ruled-unlisted : isDirect s ≡ true → ¬ When6 l s → ((e : Effect) → ¬ Legal m l s e) → rulingOf m l s .plan ≡ unlisted ReplyType.Nak (requestOf s)
     ruled-unlisted d n none = go (judged m l s)
       where
-        go : Judged m l s (deedIn m l s) → rulingOf m l s .plan ≡ unlisted ReplyType.Nak (requestOf s)
+        go : Listed m l s (deedIn m l s) → rulingOf m l s .plan ≡ unlisted ReplyType.Nak (requestOf s)
         go (is-listed e x) = absurd (none e x)
         go (is-other p) = looked-at d n ∙ ap (deedPlan m (requestOf s)) p
 
@@ -157,7 +159,7 @@ module _ (m : Module) (l s : List ℕ) where
           no-row : deedIn m l s ≡ Deed.Unlisted → (e : Effect) → ¬ Legal m l s e
           no-row p e x = let z : _≡_ {A = ℕ} 7 0 = rw p at (fulfils m l s (well-formed m l s h) e x .done) in omega arith
 
-          go : Judged m l s (deedIn m l s) → HasLine
+          go : Listed m l s (deedIn m l s) → HasLine
           go (is-listed e x) = on (zero h no-8 n no-7 e (direct e d x))
             where
               no-7 : ¬ When7 m l s

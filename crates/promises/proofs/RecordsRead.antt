@@ -19,7 +19,8 @@ use Rattle.links.proofs.Settled.{settled}
 use Rattle.module.specs.declared.state.Module.{Module}
 use Rattle.decide.specs.Ruling.{rulingOf}
 use Rattle.promises.specs.Demand3.{pingOrId}
-use Rattle.promises.specs.Groups.{ToGroup, GroupCommand1}
+use Rattle.wire.specs.Asked.{GroupCommand1}
+use Rattle.promises.specs.Groups.{ToGroup}
 use Rattle.promises.specs.Numbers.{Sound}
 use Rattle.promises.specs.RecordsRead.{Sought, of-sender, of-cleanup, of-broadcast, Reads, none, matching, end-mark, all, RecordsRead}
 use Rattle.promises.specs.RecordsRead.{NoSearch, ping-or-id, result-1, result-2, result-3, result-4, unfit-to, unfit-command}

@@ -6,11 +6,11 @@ use mathlib.Core.List.{List}
 use borrow.Author.Tests.{eqb-true}
 use Rattle.basis.specs.Choice.{choose}
 use Rattle.basis.proofs.Choice.{either}
-use Rattle.wire.specs.declared.command.Command.{Command}
 use Rattle.wire.specs.declared.kind.MessageKind.{MessageKind}
-use Rattle.wire.specs.Bytes.{fromOf, toOf, command1Of, requestOf, dataOf, isExtended}
+use Rattle.wire.specs.Bytes.{fromOf, toOf, command1Of, requestOf, dataOf}
 use Rattle.wire.specs.Commands.{groupCommandOf}
-use Rattle.wire.specs.Kinds.{typeOf, isDirect, isCleanup, isBroadcast, commandOf, kindOf}
+use Rattle.wire.specs.Kinds.{typeOf, isDirect, isCleanup, isBroadcast, kindOf}
+use Rattle.wire.specs.Asked.{commandIn}
 use Rattle.wire.specs.Reading.{wellFormed}
 use Rattle.wire.proofs.Heard.{heard}
 use Rattle.links.specs.Record.{isFit, records}
@@ -24,10 +24,6 @@ use Rattle.decide.specs.Decide.{needsNoLink, directWanted, directPlan}
 use Rattle.decide.specs.Ruling.{kindRuling, rulingBy, rulingOf}
 use Rattle.decide.proofs.Sender.{linked-plan}
 use Rattle.device.specs.Step.{Step, stepOf}
-
--- the command that the bytes name
-abbrev pub commandIn : List ℕ → Command
-commandIn s = commandOf (isExtended s) (command1Of s)
 
 -- what it comes to where it is looked at
 abbrev pub deedIn : Module → List ℕ → List ℕ → Deed

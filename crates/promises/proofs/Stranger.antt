@@ -27,10 +27,11 @@ use Rattle.reply.specs.declared.due.ReplyType.{ReplyType}
 use Rattle.reply.specs.Message.{standard, headOf}
 use Rattle.reply.specs.Reply.{replyOf}
 use Rattle.module.specs.declared.state.Identity.{Identity}
-use Rattle.module.specs.declared.state.Load.{Load}
+use Rattle.load.specs.declared.entry.Entry.{Entry}
+use Rattle.load.specs.declared.state.Load.{Load}
 use Rattle.module.specs.declared.state.Module.{Module}
 use Rattle.module.specs.declared.change.Change.{Change}
-use Rattle.module.specs.declared.deed.Entry.{Entry}
+use Rattle.module.specs.declared.plan.Writing.{Writing}
 use Rattle.module.specs.declared.plan.Plan.{Plan}
 use Rattle.module.specs.Plan.{idOf, ackTo, deedPlan}
 use Rattle.decide.specs.declared.rule.Ruling.{Ruling}
@@ -40,7 +41,7 @@ use Rattle.decide.specs.Decide.{isOpen, needsNoLink}
 use Rattle.decide.specs.Ruling.{heardBy, kindRuling, readRuling, rulingBy, rulingOf}
 use Rattle.decide.proofs.Sender.{exempt-plan, stranger-plan, stranger-cleanup, stranger-broadcast}
 use Rattle.promises.specs.Demand3.{Stranger, pingOrId}
-use Rattle.promises.proofs.Ruled.{commandIn}
+use Rattle.wire.specs.Asked.{commandIn}
 
 -- what needs no link is a standard ping or ID request
 open-is : (command1 : ℕ) → isOpen (standardOf command1) ≡ eqb command1 0x0f || eqb command1 0x10
@@ -51,12 +52,12 @@ open-is command1 = go (eqb command1 0x0f) (eqb command1 0x10)
     closed = drop 2 standards
 
     rest : Standard
-    rest = among command1 Standard.Unlisted closed
+    rest = among command1 Standard.Load closed
 
     go : (ping id : Bool) → isOpen (choose ping (Standard.Open OpenCommand.Ping) (choose id (Standard.Open OpenCommand.IdRequest) rest)) ≡ ping || id
     go true id = refl
     go false true = refl
-    go false false = not-true (isOpen rest) (passed (λ (x : Standard). not (isOpen x)) command1 Standard.Unlisted closed refl refl)
+    go false false = not-true (isOpen rest) (passed (λ (x : Standard). not (isOpen x)) command1 Standard.Load closed refl refl)
 
 pub exempt : (s : List ℕ) → needsNoLink (commandIn s) ≡ pingOrId s
 unfolding choose
@@ -83,21 +84,24 @@ module _ (i : Identity) (s : List ℕ) where
   abbrev pub strangerBytes : List ℕ
   strangerBytes = choose (isWhole s) (choose (isForeign s (i .address)) [] (choose (isSumWrong s) [] kindBytes)) []
 
--- a plan that changes nothing and sends these bytes
+-- nothing is changed, and nothing written
+abbrev pub Idle : Plan → Type 0
+Idle p = (p .change ≡ Change.Nothing) × (p .writing ≡ Writing.Nothing)
+
+-- a plan that changes nothing, writes nothing and sends these bytes
 pub record Quiet (m : Module) (l : List ℕ) (p : Plan) (bytes : List ℕ) : Type 0 where
-  pub nothing : p .change ≡ Change.Nothing
+  pub nothing : Idle p
   pub sent : replyOf (m .identity .address) l (p .due) ≡ bytes
 
 -- every kind leaves a ping and an ID request as they are
-open-entry : (m : Module) (load : Load) (r : Request) (d : List ℕ) (command : OpenCommand)
-    → entryBy m load r d (Command.Standard (Standard.Open command)) ≡ Entry.Shared
-open-entry m (Load.Dimmer lamp) r d command = refl
-open-entry m (Load.Outlet sockets) r d command = refl
+open-entry : (load : Load) (r : Request) (d : List ℕ) (command : OpenCommand) → entryBy load r d (Command.Standard (Standard.Open command)) .entry ≡ Entry.Shared
+open-entry (Load.Dimmer lamp) r d command = refl
+open-entry (Load.Outlet sockets) r d command = refl
 
 module _ (m : Module) (l s : List ℕ) (stranger : Stranger l s) where
   open-deed : (d : List ℕ) (n : ℕ) (command : OpenCommand) → standardOf (command1Of s) ≡ Standard.Open command
       → deedOf m (requestOf s) d n (Command.Standard (standardOf (command1Of s))) ≡ openDeed command
-  open-deed d n command is = rw (is, open-entry m (m .load) (requestOf s) d command)
+  open-deed d n command is = rw (is, open-entry (m .load) (requestOf s) d command)
 
   opens : (d : List ℕ) (n : ℕ) → pingOrId s ≡ true
       → Quiet m l (deedPlan m (requestOf s) (deedOf m (requestOf s) d n (commandIn s))) (openBytes (m .identity) s (eqb (command1Of s) 0x0f))
@@ -107,8 +111,8 @@ module _ (m : Module) (l s : List ℕ) (stranger : Stranger l s) where
       go : (long ping : Bool) → eqb (command1Of s) 0x0f ≡ ping → not long && (ping || eqb (command1Of s) 0x10) ≡ true
           → Quiet m l (deedPlan m (requestOf s) (deedOf m (requestOf s) d n (commandOf long (command1Of s)))) (openBytes (m .identity) s ping)
       go true ping q e = clash refl (sym e)
-      go false true q e = rw (open-deed d n OpenCommand.Ping (rw (eqb-true (command1Of s) 0x0f q))) (record { nothing = refl; sent = refl })
-      go false false q e = rw (open-deed d n OpenCommand.IdRequest (rw (eqb-true (command1Of s) 0x10 e))) (record { nothing = refl; sent = refl })
+      go false true q e = rw (open-deed d n OpenCommand.Ping (rw (eqb-true (command1Of s) 0x0f q))) (record { nothing = (refl, refl); sent = refl })
+      go false false q e = rw (open-deed d n OpenCommand.IdRequest (rw (eqb-true (command1Of s) 0x10 e))) (record { nothing = (refl, refl); sent = refl })
 
   module _ (d : List ℕ) where
     abbrev QuietKind : MessageKind → List ℕ → Type 0
@@ -119,14 +123,14 @@ module _ (m : Module) (l s : List ℕ) (stranger : Stranger l s) where
         (choose t (openBytes (m .identity) s (eqb (command1Of s) 0x0f)) (standard (m .identity .address) (fromOf s) ReplyType.Nak (hopsOf s) (command1Of s) 0xff))
     unfolding choose
     to-direct true e = rw (exempt-plan m l (requestOf s) d (records l) (commandIn s) (exempt s ∙ e)) (opens d (records l) e)
-    to-direct false e = rw (stranger-plan m l (requestOf s) d (records l) (commandIn s) stranger (exempt s ∙ e)) (record { nothing = refl; sent = refl })
+    to-direct false e = rw (stranger-plan m l (requestOf s) d (records l) (commandIn s) stranger (exempt s ∙ e)) (record { nothing = (refl, refl); sent = refl })
 
     to-cleanup : QuietKind (MessageKind.Cleanup (requestOf s) (groupCommandOf (command1Of s)))
         (standard (m .identity .address) (fromOf s) ReplyType.CleanupNak (hopsOf s) (command1Of s) 0xff)
-    to-cleanup = rw (stranger-cleanup m l (requestOf s) stranger (groupCommandOf (command1Of s))) (record { nothing = refl; sent = refl })
+    to-cleanup = rw (stranger-cleanup m l (requestOf s) stranger (groupCommandOf (command1Of s))) (record { nothing = (refl, refl); sent = refl })
 
     to-broadcast : QuietKind (MessageKind.Broadcast (fromOf s) (toOf s) (groupCommandOf (command1Of s))) []
-    to-broadcast = rw (stranger-broadcast m l (fromOf s) (toOf s) stranger (groupCommandOf (command1Of s))) (record { nothing = refl; sent = refl })
+    to-broadcast = rw (stranger-broadcast m l (fromOf s) (toOf s) stranger (groupCommandOf (command1Of s))) (record { nothing = (refl, refl); sent = refl })
 
     kind-quiet : QuietKind (kindOf s) (kindBytes (m .identity) s)
     unfolding kindOf
@@ -136,9 +140,9 @@ module _ (m : Module) (l s : List ℕ) (stranger : Stranger l s) where
   unfolding readOf
   read-quiet =
       beside Q (isWhole s)
-      (beside Q (isForeign s (m .identity .address)) (record { nothing = refl; sent = refl })
-      (beside Q (isSumWrong s) (record { nothing = refl; sent = refl }) (kind-quiet (dataOf s))))
-      (record { nothing = refl; sent = refl })
+      (beside Q (isForeign s (m .identity .address)) (record { nothing = (refl, refl); sent = refl })
+      (beside Q (isSumWrong s) (record { nothing = (refl, refl); sent = refl }) (kind-quiet (dataOf s))))
+      (record { nothing = (refl, refl); sent = refl })
     where
       Q : Message → List ℕ → Type 0
       Q message bytes = Quiet m l (readRuling m l (message .«data») (message .reading) .plan) bytes
@@ -148,6 +152,6 @@ module _ (m : Module) (l s : List ℕ) (stranger : Stranger l s) where
   ruling-quiet f = rw f read-quiet
 
   -- whatever the memory, a stranger alters nothing
-  pub unaltered : rulingOf m l s .plan .change ≡ Change.Nothing
+  pub unaltered : Idle (rulingOf m l s .plan)
   unfolding rulingBy
-  unaltered = either (λ (r : Ruling). r .plan .change ≡ Change.Nothing) (isFit l) (read-quiet .nothing) refl
+  unaltered = either (λ (r : Ruling). Idle (r .plan)) (isFit l) (read-quiet .nothing) (refl, refl)

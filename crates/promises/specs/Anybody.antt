@@ -9,7 +9,8 @@ use Rattle.wire.specs.Reading.{wellFormed}
 use Rattle.links.specs.Record.{isFit}
 use Rattle.module.specs.declared.state.Module.{Module}
 use Rattle.device.specs.Step.{Step, stepOf}
-use Rattle.promises.specs.Legal.{Short, repeated, idBroadcast, sends, Taken}
+use Rattle.wire.specs.Asked.{Short}
+use Rattle.promises.specs.Legal.{repeated, idBroadcast, sends, Taken}
 
 -- result 0, these bytes sent, nothing altered, and no record read
 pub record Answered (m : Module) (l room bytes : List ℕ) (t : Step) : Type 0 where

@@ -7,7 +7,8 @@ use Rattle.basis.specs.Flags.{SetIn, ClearIn}
 use Rattle.wire.specs.Bytes.{command2Of}
 use Rattle.module.specs.declared.state.Module.{Module}
 use Rattle.device.specs.Step.{stepOf}
-use Rattle.promises.specs.Legal.{Long, FromLinked}
+use Rattle.wire.specs.Asked.{Long}
+use Rattle.promises.specs.Legal.{FromLinked}
 
 -- of the eight flags, which are a byte, the bit named is set, and every other one stays
 abbrev pub SetsFlag : Type 0

@@ -7,26 +7,29 @@ use mathlib.Core.Logic.{_⊎_}
 use lib.ListN.{length}
 use Rattle.wire.specs.Bytes.{fromOf, toOf, hopsOf, command1Of, command2Of}
 use Rattle.wire.specs.Kinds.{isCleanup, isBroadcast}
+use Rattle.wire.specs.Asked.{GroupCommand1}
 use Rattle.wire.specs.Reading.{wellFormed}
 use Rattle.links.specs.declared.memory.Link.{Link}
 use Rattle.links.specs.Record.{isFit, recordAt, linkOf}
 use Rattle.reply.specs.declared.due.ReplyType.{ReplyType}
 use Rattle.reply.specs.Message.{standard}
 use Rattle.results.specs.Number.{numberOf}
-use Rattle.module.specs.declared.state.Lamp.{Lamp}
-use Rattle.module.specs.declared.state.Sockets.{Sockets}
-use Rattle.module.specs.declared.state.Load.{Load}
+use Rattle.load.specs.declared.state.Lamp.{Lamp}
+use Rattle.load.specs.declared.state.Sockets.{Sockets}
+use Rattle.load.specs.declared.state.Load.{Load}
 use Rattle.module.specs.declared.state.Module.{Module}
+use Rattle.module.specs.Change.{withLoad}
+use Rattle.dimmer.specs.LegalGroups.{GroupDimmer}
+use Rattle.outlet.specs.LegalGroups.{GroupOutlet}
 use Rattle.device.specs.Step.{stepOf}
 use Rattle.promises.specs.Legal.{Effect, Taken}
 use Rattle.promises.specs.Responders.{Responder, FirstResponder, NoResponder}
-use Rattle.promises.specs.GroupsDimmer.{GroupDimmer}
-use Rattle.promises.specs.GroupsOutlet.{GroupOutlet}
 
 -- what the deciding record makes of a module, by its kind
-pub data GroupLegal (m : Module) (s : List ℕ) (decides : Link) (next : Module) : Type 0 where
-  dimmer : (lamp : Lamp) → m .load ≡ Load.Dimmer lamp → GroupDimmer m lamp s decides next → GroupLegal m s decides next
-  outlet : (sockets : Sockets) → m .load ≡ Load.Outlet sockets → GroupOutlet m sockets s decides next → GroupLegal m s decides next
+pub data GroupLegal (m : Module) (s : List ℕ) (decides : Link) : Module → Type 0 where
+  dimmer : (lamp next : Lamp) → m .load ≡ Load.Dimmer lamp → GroupDimmer lamp s decides next → GroupLegal m s decides (withLoad (Load.Dimmer next) m)
+  outlet : (sockets next : Sockets) → m .load ≡ Load.Outlet sockets → GroupOutlet sockets s decides next
+      → GroupLegal m s decides (withLoad (Load.Outlet next) m)
 
 -- it makes nothing of it: the record fits no row of the module's kind
 abbrev pub NoRow : Module → List ℕ → Link → Type 0
@@ -43,10 +46,6 @@ cleanupEffect m l s next =
 -- To = 00 00 group
 abbrev pub ToGroup : List ℕ → Type 0
 ToGroup s = (toOf s .high ≡ 0x00) × (toOf s .middle ≡ 0x00)
-
--- Command 1 in 11 to 14
-abbrev pub GroupCommand1 : List ℕ → Type 0
-GroupCommand1 s = (0x11 ≤ command1Of s) × (command1Of s ≤ 0x14)
 
 -- a group broadcast that concerns us not
 pub data Unconcerned (m : Module) (l s : List ℕ) : Type 0 where

@@ -1,12 +1,13 @@
 -- Demand 2's last sentence: the legal direct commands, each with its effect and its reply, stated on their own. These rows every kind has.
 use Prim.Native.Nat.{ℕ, zero, suc, _+_, _-_, _*_, _/_, _%_, _≤_, _<_}
 use mathlib.Core.Path.{_≡_}
-use mathlib.Core.Bool.{true, false}
+use mathlib.Core.Bool.{true}
 use mathlib.Core.List.{List, [], _∷_, _++_}
 use lib.ListN.{take, drop}
 use Rattle.basis.specs.Flags.{setBit, clearBit}
 use Rattle.basis.specs.Laid.{laid}
-use Rattle.wire.specs.Bytes.{fromOf, hopsOf, command1Of, command2Of, dataAt, isExtended}
+use Rattle.wire.specs.Bytes.{fromOf, hopsOf, command1Of, command2Of, dataAt}
+use Rattle.wire.specs.Asked.{Short, Long, Asks}
 use Rattle.wire.specs.Kinds.{isDirect}
 use Rattle.wire.specs.Reading.{wellFormed}
 use Rattle.links.specs.Record.{isFit, records, recordAt}
@@ -16,6 +17,7 @@ use Rattle.reply.specs.declared.due.ReplyType.{ReplyType}
 use Rattle.reply.specs.Message.{standard, extended}
 use Rattle.reply.specs.Positions.{SentFrom}
 use Rattle.results.specs.Number.{numberOf}
+use Rattle.load.specs.declared.entry.Properties.{Properties}
 use Rattle.module.specs.declared.state.Module.{Module}
 use Rattle.module.specs.Change.{withFlags, withLed, withX10, nextDelta}
 use Rattle.device.specs.Step.{Step}
@@ -28,17 +30,6 @@ pub record Effect : Type 0 where
 
 -- by the message's bytes
 module _ (s : List ℕ) where
-  -- a standard message, and an extended one, with this Command 1
-  abbrev pub Short : ℕ → Type 0
-  Short c = (isExtended s ≡ false) × (command1Of s ≡ c)
-
-  abbrev pub Long : ℕ → Type 0
-  Long c = (isExtended s ≡ true) × (command1Of s ≡ c)
-
-  -- an extended one with Command 2 = 00 and this Data 2
-  abbrev pub Asks : ℕ → ℕ → Type 0
-  Asks c d2 = Long c × (command2Of s ≡ 0x00) × (dataAt s 2 ≡ d2)
-
   -- Data 3 and 4 name record k of link memory l: by 0FFF minus 8k, and record 0 by 0000 too
   pub data Names (l : List ℕ) : ℕ → Type 0 where
     by-place : (k : ℕ) → k < records l → dataAt s 3 * 256 + dataAt s 4 + 8 * k ≡ 0x0fff → Names l k
@@ -60,10 +51,10 @@ module _ (m : Module) (s : List ℕ) where
       ReplyType.IdBroadcast (hopsOf s) 0x01 (m .identity .revision)
 
   -- Data 1 as sent, 01, 00, 00, house, unit, ramp, on level, LED, 00, 01, 00, 00, 00
-  abbrev pub properties : ℕ → ℕ → List ℕ
-  properties ramp onLevel =
+  abbrev pub properties : Properties → List ℕ
+  properties p =
       extended (m .identity .address) (fromOf s) (hopsOf s) 0x2e
-      (dataAt s 1 ∷ 0x01 ∷ 0x00 ∷ 0x00 ∷ m .house ∷ m .unit ∷ ramp ∷ onLevel ∷ m .led ∷ 0x00 ∷ 0x01 ∷ 0x00 ∷ 0x00 ∷ 0x00 ∷ [])
+      (dataAt s 1 ∷ 0x01 ∷ 0x00 ∷ 0x00 ∷ m .house ∷ m .unit ∷ p .ramp ∷ p .«on_level» ∷ m .led ∷ 0x00 ∷ 0x01 ∷ 0x00 ∷ 0x00 ∷ 0x00 ∷ [])
 
 -- records of link memory l
 module _ (m : Module) (l s : List ℕ) where

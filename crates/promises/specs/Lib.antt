@@ -10,14 +10,11 @@ pub mod Demand1
 pub mod Demand2
 pub mod Demand3
 pub mod Legal
-pub mod LegalDimmer
-pub mod LegalOutlet
+pub mod NotHere
 pub mod LegalAny
 pub mod Names
 pub mod Anybody
 pub mod Responders
-pub mod GroupsDimmer
-pub mod GroupsOutlet
 pub mod Groups
 pub mod Numbers
 pub mod RecordsRead

@@ -9,7 +9,8 @@ use Rattle.links.specs.Record.{records}
 use Rattle.results.specs.Number.{numberOf}
 use Rattle.module.specs.declared.state.Module.{Module}
 use Rattle.device.specs.Step.{stepOf}
-use Rattle.promises.specs.Legal.{Long, FromLinked}
+use Rattle.wire.specs.Asked.{Long}
+use Rattle.promises.specs.Legal.{FromLinked}
 
 -- a message of 23 bytes: those up to Data 2, then Data 3 and 4, then Data 5 to 13, then Data 14
 abbrev pub asking : List ℕ → ℕ → ℕ → List ℕ → ℕ → List ℕ

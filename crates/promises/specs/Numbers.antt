@@ -18,7 +18,8 @@ use Rattle.promises.specs.Demand3.{Stranger, pingOrId}
 use Rattle.promises.specs.Legal.{Effect, sends, Ends}
 use Rattle.promises.specs.LegalAny.{Legal}
 use Rattle.promises.specs.Responders.{FirstResponder, NoResponder}
-use Rattle.promises.specs.Groups.{GroupLegal, NoRow, broadcastEffect, cleanupEffect, GroupCommand1, Unconcerned}
+use Rattle.wire.specs.Asked.{GroupCommand1}
+use Rattle.promises.specs.Groups.{GroupLegal, NoRow, broadcastEffect, cleanupEffect, Unconcerned}
 
 -- 2: link memory length 0, over 2,048, or no multiple of 8
 pub data When2 (l : List ℕ) : Type 0 where

@@ -12,7 +12,8 @@ use Rattle.module.specs.declared.state.Module.{Module}
 use Rattle.device.specs.Step.{stepOf}
 use Rattle.promises.specs.Demand3.{pingOrId}
 use Rattle.promises.specs.Responders.{Responder}
-use Rattle.promises.specs.Groups.{ToGroup, GroupCommand1}
+use Rattle.wire.specs.Asked.{GroupCommand1}
+use Rattle.promises.specs.Groups.{ToGroup}
 use Rattle.promises.specs.Numbers.{When2, When1, When3, When4}
 
 -- record k settles the search: a live record of the sender; for a group a live responder record of sender and group

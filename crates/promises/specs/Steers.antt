@@ -3,15 +3,15 @@ use Prim.Native.Nat.{ℕ, _/_, _%_}
 use mathlib.Core.Path.{_≡_}
 use mathlib.Core.List.{List, _∷_}
 use Rattle.results.specs.Number.{numberOf}
-use Rattle.module.specs.declared.state.Load.{Load}
+use Rattle.load.specs.declared.state.Load.{Load}
 use Rattle.module.specs.declared.state.Module.{Module}
 use Rattle.module.specs.Change.{withFlags, withLed, withLoad}
-use Rattle.dimmer.specs.Lamp.{withRamp, withOnLevel}
+use Rattle.dimmer.specs.Rates as lamps
 use Rattle.device.specs.Step.{Step, stepOf}
 
 -- a dimmer's lamp with another ramp rate and on level; an outlet has none
 abbrev pub withRates : ℕ → ℕ → Load → Load
-withRates ramp onLevel (Load.Dimmer lamp) = Load.Dimmer (withRamp ramp (withOnLevel onLevel lamp))
+withRates ramp onLevel (Load.Dimmer lamp) = Load.Dimmer (lamps.withRates ramp onLevel lamp)
 withRates ramp onLevel (Load.Outlet sockets) = Load.Outlet sockets
 
 -- the module with other flags, LED, ramp rate and on level

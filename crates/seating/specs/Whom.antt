@@ -9,7 +9,7 @@ use Rattle.wire.specs.declared.address.Address.{Address}
 use Rattle.wire.specs.declared.kind.MessageKind.{MessageKind}
 use Rattle.wire.specs.Bytes.{toOf}
 use Rattle.wire.specs.Kinds.{heardAs}
-use Rattle.module.specs.declared.state.Load.{Load}
+use Rattle.load.specs.declared.state.Load.{Load}
 use Rattle.module.specs.declared.state.Module.{Module}
 use Rattle.row.specs.Row.{seatNamed}
 

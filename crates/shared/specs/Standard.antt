@@ -37,5 +37,4 @@ moduleDeed m r ModuleCommand.Beep = acked Change.Nothing
 abbrev pub standardDeed : Module → Request → Standard → Deed
 standardDeed m r (Standard.Open command) = openDeed command
 standardDeed m r (Standard.Module command) = moduleDeed m r command
-standardDeed m r (Standard.Load command) = Deed.Unlisted
-standardDeed m r Standard.Unlisted = Deed.Unlisted
+standardDeed m r Standard.Load = Deed.Unlisted

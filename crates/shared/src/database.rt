@@ -53,7 +53,7 @@ fn set_deed(data: [u8; 14], place: Place) -> Deed
 {
     let n = data[4];
     match place {
-        Place::Record(k) => limited(1, 8, n, Change::Record(k, wide(n))),
+        Place::Record(k) => limited(1, 8, n, Deed::Written(k, wide(n))),
         Place::Illegal => Deed::Unlisted,
     }
 }

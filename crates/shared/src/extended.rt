@@ -22,12 +22,10 @@ pub(crate) fn extended_deed(
     ensures { λ deed. ⌜ deed ≡ extendedDeed m r «data» records command ⌝ }
 {
     match command {
-        Extended::On => Deed::Unlisted,
-        Extended::Off => Deed::Unlisted,
         Extended::SetFlags => flags_deed(m, r.command2),
         Extended::Properties => properties_deed(r, data),
         Extended::Database => database_deed(r, data, records),
-        Extended::Unlisted => Deed::Unlisted,
+        Extended::Load => Deed::Unlisted,
     }
 }
 

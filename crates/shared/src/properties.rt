@@ -1,4 +1,5 @@
 // 2E: the properties that every module has, and what Get Properties shows ("Direct commands, extended").
+use load::entry::Properties;
 use module::change::Change;
 use module::deed::Ack;
 use module::deed::Deed;
@@ -29,14 +30,14 @@ fn property_deed(data: [u8; 14]) -> Deed
     let x = data[2];
     match what {
         0x04 => acked(Change::X10(x, data[3])),
-        0x07 => limited(0x11, 0x7f, x, Change::Led(x)),
+        0x07 => limited(0x11, 0x7f, x, acked(Change::Led(x))),
         _ => Deed::Unlisted,
     }
 }
 
-// Get Properties, of a module whose kind has this ramp and this on level.
-pub fn shown_deed(m: Module, data1: u8, ramp: u8, on_level: u8) -> Deed
-    ensures { λ deed. ⌜ deed ≡ shownDeed m data1 ramp «on_level» ⌝ }
+// Get Properties, of a module whose kind shows these.
+pub fn shown_deed(m: Module, data1: u8, p: Properties) -> Deed
+    ensures { λ deed. ⌜ deed ≡ shownDeed m data1 p ⌝ }
 {
     Deed::Done(
         Change::Nothing,
@@ -47,8 +48,8 @@ pub fn shown_deed(m: Module, data1: u8, ramp: u8, on_level: u8) -> Deed
             d4: 0x00,
             d5: m.house,
             d6: m.unit,
-            d7: ramp,
-            d8: on_level,
+            d7: p.ramp,
+            d8: p.on_level,
             d9: m.led,
             d10: 0x00,
             d11: 0x01,

@@ -18,8 +18,7 @@ pub(crate) fn standard_deed(m: Module, r: Request, command: Standard) -> Deed
     match command {
         Standard::Open(c) => open_deed(c),
         Standard::Module(c) => module_deed(m, r, c),
-        Standard::Load(_) => Deed::Unlisted,
-        Standard::Unlisted => Deed::Unlisted,
+        Standard::Load => Deed::Unlisted,
     }
 }
 

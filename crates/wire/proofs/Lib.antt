@@ -3,3 +3,4 @@ pub mod Whole
 pub mod Heard
 pub mod Numbered
 pub mod Commanded
+pub mod CommandBytes

@@ -1,4 +1,4 @@
--- What Command 1 asks for.
+-- What Command 1 asks for: the commands that every module answers alike; all others are its load's to list.
 use Prim.Native.Nat.{ℕ}
 use mathlib.Core.List.{List, [], _∷_}
 use lib.Dec.{leb}
@@ -8,7 +8,6 @@ use Rattle.basis.specs.Table.{Row, among, _⇒_}
 use Rattle.wire.specs.declared.command.Standard.{Standard}
 use Rattle.wire.specs.declared.command.OpenCommand.{OpenCommand}
 use Rattle.wire.specs.declared.command.ModuleCommand.{ModuleCommand}
-use Rattle.wire.specs.declared.command.LoadCommand.{LoadCommand}
 use Rattle.wire.specs.declared.command.Extended.{Extended}
 use Rattle.wire.specs.declared.command.GroupCommand.{GroupCommand}
 
@@ -18,36 +17,23 @@ standards =
     0x0f ⇒ Standard.Open OpenCommand.Ping ∷
     0x10 ⇒ Standard.Open OpenCommand.IdRequest ∷
     0x0d ⇒ Standard.Module ModuleCommand.EngineVersion ∷
-    0x11 ⇒ Standard.Load LoadCommand.On ∷
-    0x12 ⇒ Standard.Load LoadCommand.OnFast ∷
-    0x21 ⇒ Standard.Load LoadCommand.Instant ∷
-    0x13 ⇒ Standard.Load LoadCommand.Off ∷
-    0x14 ⇒ Standard.Load LoadCommand.OffFast ∷
-    0x15 ⇒ Standard.Load LoadCommand.Brighten ∷
-    0x16 ⇒ Standard.Load LoadCommand.Dim ∷
-    0x19 ⇒ Standard.Load LoadCommand.Status ∷
     0x1f ⇒ Standard.Module ModuleCommand.ReadFlags ∷
-    0x2e ⇒ Standard.Load LoadCommand.OnAtRamp ∷
-    0x2f ⇒ Standard.Load LoadCommand.OffAtRamp ∷
     0x30 ⇒ Standard.Module ModuleCommand.Beep ∷
-    0x39 ⇒ Standard.Load LoadCommand.Percent ∷
     []
 
 abbrev pub standardOf : ℕ → Standard
-standardOf command1 = among command1 Standard.Unlisted standards
+standardOf command1 = among command1 Standard.Load standards
 
--- "Direct commands, extended", and those to the second socket of an outlet
+-- "Direct commands, extended"
 unfoldable pub extendeds : List (Row Extended)
 extendeds =
-    0x11 ⇒ Extended.On ∷
-    0x13 ⇒ Extended.Off ∷
     0x20 ⇒ Extended.SetFlags ∷
     0x2e ⇒ Extended.Properties ∷
     0x2f ⇒ Extended.Database ∷
     []
 
 abbrev pub extendedOf : ℕ → Extended
-extendedOf command1 = among command1 Extended.Unlisted extendeds
+extendedOf command1 = among command1 Extended.Load extendeds
 
 -- "Groups": of 11 to 14 the first two turn on, the others off
 abbrev pub turnOf : ℕ → GroupCommand

@@ -2,5 +2,6 @@
 pub mod Bytes
 pub mod Commands
 pub mod Kinds
+pub mod Asked
 pub mod Checksum
 pub mod Reading

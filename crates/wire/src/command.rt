@@ -1,14 +1,13 @@
-// What a message asks for, by its Command 1. Whether a module takes the command, and the Command 2 that came with it, is the
-// module's to say; what no row of the paper names is `Unlisted`.
+// What a message asks for, by its Command 1: what every module answers alike has a name here. All else is its load's to list, by the bytes
+// themselves, in the crate of its kind.
 ghost use mathlib.Core.Path.{_≡_};
 ghost use Rattle.wire.specs.Commands.{standardOf, extendedOf, turnOf, groupCommandOf};
 
-// "Direct commands, standard": those that need no link, those that every module takes, and those to its load.
+// "Direct commands, standard": those that need no link, those that every module takes, and all others.
 pub enum Standard {
     Open(OpenCommand),
     Module(ModuleCommand),
-    Load(LoadCommand),
-    Unlisted,
+    Load,
 }
 
 pub enum OpenCommand {
@@ -22,28 +21,12 @@ pub enum ModuleCommand {
     Beep,
 }
 
-pub enum LoadCommand {
-    On,
-    OnFast,
-    Instant,
-    Off,
-    OffFast,
-    Brighten,
-    Dim,
-    Status,
-    OnAtRamp,
-    OffAtRamp,
-    Percent,
-}
-
-// "Direct commands, extended".
+// "Direct commands, extended": those that every module takes, and all others.
 pub enum Extended {
-    On,
-    Off,
     SetFlags,
     Properties,
     Database,
-    Unlisted,
+    Load,
 }
 
 // A direct command: the same Command 1 asks for different things in a standard and in an extended message.
@@ -66,20 +49,9 @@ pub(crate) fn standard_of(command1: u8) -> Standard
         0x0f => Standard::Open(OpenCommand::Ping),
         0x10 => Standard::Open(OpenCommand::IdRequest),
         0x0d => Standard::Module(ModuleCommand::EngineVersion),
-        0x11 => Standard::Load(LoadCommand::On),
-        0x12 => Standard::Load(LoadCommand::OnFast),
-        0x21 => Standard::Load(LoadCommand::Instant),
-        0x13 => Standard::Load(LoadCommand::Off),
-        0x14 => Standard::Load(LoadCommand::OffFast),
-        0x15 => Standard::Load(LoadCommand::Brighten),
-        0x16 => Standard::Load(LoadCommand::Dim),
-        0x19 => Standard::Load(LoadCommand::Status),
         0x1f => Standard::Module(ModuleCommand::ReadFlags),
-        0x2e => Standard::Load(LoadCommand::OnAtRamp),
-        0x2f => Standard::Load(LoadCommand::OffAtRamp),
         0x30 => Standard::Module(ModuleCommand::Beep),
-        0x39 => Standard::Load(LoadCommand::Percent),
-        _ => Standard::Unlisted,
+        _ => Standard::Load,
     }
 }
 
@@ -87,12 +59,10 @@ pub(crate) fn extended_of(command1: u8) -> Extended
     ensures { λ r. ⌜ r ≡ extendedOf command1 ⌝ }
 {
     match command1 {
-        0x11 => Extended::On,
-        0x13 => Extended::Off,
         0x20 => Extended::SetFlags,
         0x2e => Extended::Properties,
         0x2f => Extended::Database,
-        _ => Extended::Unlisted,
+        _ => Extended::Load,
     }
 }
 

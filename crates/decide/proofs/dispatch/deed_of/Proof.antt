@@ -1,3 +1,4 @@
+-- By what the kind answers.
 use borrow.Author.Needs.{needs}
 use Rattle.decide.proofs.dispatch.deed_of.Statement.{statement}
 use Rattle.decide.proofs.dispatch.deed_of.Tie as tie
@@ -8,7 +9,17 @@ deed-of-spec =
     (tie.spec
     (λ c κs. search needs)
     (λ c. search needs)
+    (λ c κs. search needs)
     (λ c. search needs)
     (λ c κs. search needs)
-    (λ c. rw (← c .before .before .before .own-entry .ensures, c .before .deed .given .1))
-    (λ c. rw (← c .before .before .before .own-entry .ensures, c .before .enum-told .given .1) (c .shared-deed .ensures)))
+    (λ c. search needs)
+    (λ c. search needs)
+    (λ c κs. search needs)
+    (λ c. search needs)
+    (λ c κs. search needs)
+    (λ c. search needs)
+    (λ c. rw (← c .before .before .before .entry-by .ensures, c .before .enum-told .given .1) (c .acked .ensures))
+    (λ c. rw (← c .before .before .before .before .entry-by .ensures, c .before .before .entry .given .1) (c .showing .ensures))
+    (λ c. rw (← c .before .before .before .before .entry-by .ensures, c .before .before .entry2 .given .1) (c .shown-deed .ensures))
+    (λ c. rw (← c .before .before .before .entry-by .ensures, c .before .enum-told2 .given .1) (c .shared-deed .ensures))
+    (λ c. rw (← c .before .before .entry-by .ensures, c .enum-told3 .given .1)))

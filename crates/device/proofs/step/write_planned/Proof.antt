@@ -23,25 +23,15 @@ write-planned-spec =
     (λ c. search needs)
     (λ c. search needs)
     (λ c. search needs)
-    (λ c. search needs)
-    (λ c. search needs)
-    (λ c. search needs)
-    (λ c. search needs)
-    (λ c. search needs)
     (λ c κs. search needs)
     (λ c. rw (c .enum-told .given .1))
-    (λ c. rw (c .enum-told2 .given .1))
-    (λ c. rw (c .enum-told3 .given .1))
-    (λ c. rw (c .enum-told4 .given .1))
-    (λ c. rw (c .enum-told5 .given .1))
-    (λ c. rw (c .enum-told6 .given .1))
     (λ c. search needs)
     (λ c.
-    let it = c .before .before .before .before .before .before .before .before .change .given in
+    let it = c .before .before .before .before .before .before .before .before .writing .given in
     rw (it .1) (rw (some (it .0 .1 .0)) at (c .before .before .write .ensures)))
     (λ c.
     let s = c .before .before .before .before .before in
-    let it = c .before .before .change .given in
+    let it = c .before .before .writing .given in
     let d = s .args .t2 in
     rw (it .1)
     (sym (too-many (s .args .links .now) (it .0 .0) (take (it .0 .1 .0) (drop 5 d)) (simp (length-take, length-drop) (omega (arith, good-length (eInt w8) 14 d _ (s .good .1 .0))))))))

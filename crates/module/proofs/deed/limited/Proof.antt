@@ -1,7 +1,5 @@
-use mathlib.Core.Path.{sym, _∙_}
 use Rattle.basis.specs.Choice.{choose}
 use Rattle.module.specs.Deed.{limited}
-use borrow.Author.Needs.{needs}
 use Rattle.module.proofs.deed.limited.Statement.{statement}
 use Rattle.module.proofs.deed.limited.Tie as tie
 
@@ -10,6 +8,5 @@ unfolding limited choose
 limited-spec =
     tie.close
     (tie.spec
-    (λ c κs. search needs)
-    (λ c. rw (c .before .if1 .taken) (c .acked .ensures))
+    (λ c. rw (c .if1 .taken))
     (λ c. rw (c .if1 .left)))

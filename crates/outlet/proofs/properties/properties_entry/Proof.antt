@@ -1,7 +1,7 @@
-use borrow.Author.Needs.{needs}
 use borrow.Author.Tests.{ne-eqb}
 use Rattle.basis.specs.Choice.{choose}
 use Rattle.outlet.specs.Properties.{propertiesEntry}
+use borrow.Author.Needs.{needs}
 use Rattle.outlet.proofs.properties.properties_entry.Statement.{statement}
 use Rattle.outlet.proofs.properties.properties_entry.Tie as tie
 
@@ -11,5 +11,6 @@ properties-entry-spec =
     tie.close
     (tie.spec
     (λ c κs. search needs)
+    (λ c κs. search needs)
     (λ c. rw (c .before .match .keys1) (c .property-entry .ensures))
-    (λ c. rw (ne-eqb _ 0x00 (c .match .rest .1))))
+    (λ c. rw (ne-eqb _ 0x00 (c .before .match .rest .1)) (c .stays .ensures)))

@@ -7,11 +7,11 @@ standard-entry-spec =
     tie.close
     (tie.spec
     (λ c. search needs)
-    (λ c. search needs)
+    (λ c κs. search needs)
     (λ c. search needs)
     (λ c κs. search needs)
     (λ c. search needs)
-    (λ c. rw (c .enum-told .given .1))
-    (λ c. rw (c .enum-told2 .given .1))
-    (λ c. rw (c .load-deed .ensures, c .before .before .command .given .1))
-    (λ c. rw (c .enum-told3 .given .1)))
+    (λ c κs. search needs)
+    (λ c. rw (c .stays .ensures, c .before .enum-told .given .1))
+    (λ c. rw (c .stays2 .ensures, c .before .enum-told2 .given .1))
+    (λ c. rw (c .load-entry .ensures, c .before .enum-told3 .given .1)))

@@ -16,6 +16,7 @@ property-deed-spec =
     (λ c. search needs)
     (λ c κs. search needs)
     (λ c κs. search needs)
+    (λ c κs. search needs)
     (λ c. rw (c .acked .ensures, c .before .match .keys1))
-    (λ c. rw (c .limited .ensures, c .before .match .keys2))
+    (λ c. rw (c .limited .ensures, c .before .acked2 .ensures, c .before .before .match .keys2))
     (λ c. sym (missed _ _ (propertyRows (c .before .args .t1)) (c .match .rest))))

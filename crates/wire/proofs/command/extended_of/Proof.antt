@@ -14,6 +14,4 @@ extended-of-spec =
     (λ c. rw (c .match .keys1))
     (λ c. rw (c .match .keys2))
     (λ c. rw (c .match .keys3))
-    (λ c. rw (c .match .keys4))
-    (λ c. rw (c .match .keys5))
     (λ c. sym (missed (c .before .args .command1) _ extendeds (c .match .rest))))

@@ -1,0 +1,2 @@
+-- Laws of the border.
+pub mod Carried

@@ -1,7 +1,0 @@
-use borrow.Author.Needs.{needs}
-use Rattle.module.proofs.change.with_lamp.Statement.{statement}
-use Rattle.module.proofs.change.with_lamp.Tie as tie
-
-pub with-lamp-spec : {M : Type 1} → statement M
-with-lamp-spec =
-    tie.close (tie.spec (λ c. search needs) (λ c. search needs) (λ c. rw (c .enum-told .given .1)) (λ c. rw (c .before .load .given .1)))

@@ -1,4 +1,4 @@
-// The bench: modem frames on standard input, replies in frames on standard output ("The program").
+// The bench: modem frames on standard input, replies in frames on standard output ("The program"); or a line for each frame, to be read.
 fn main() {
-    desk::sit(desk::Show::Frames);
+    desk::sit();
 }

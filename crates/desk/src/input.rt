@@ -34,44 +34,24 @@ pub(crate) struct Loaded {
     pub is_fine: bool,
 }
 
-// links.bin, as far as there is room; where it is missing, nothing ("The program").
-pub(crate) fn load(memory: &mut [u8]) -> Loaded
-    ensures { λ r. ⌜ Counts (r .size) (now (memory .exit)) ⌝ }
+// A file, as far as there is room; where it is missing and not needed, nothing ("The program"). What goes wrong is said.
+pub(crate) fn load(name: &[u8], is_needed: bool, bytes: &mut [u8]) -> Loaded
+    ensures { λ r. ⌜ Counts (r .size) (now (bytes .exit)) ⌝ }
 {
-    let fd = os::open_read(b"links.bin");
+    let fd = os::open_read(name);
     if fd < 0 {
-        let is_missing = os::errno() == libc::ENOENT;
-        if !is_missing {
-            os::fail(b"links.bin");
+        let is_fine = (os::errno() == libc::ENOENT) & !is_needed;
+        if !is_fine {
+            os::fail(name);
         }
         return Loaded {
             size: 0,
-            is_fine: is_missing,
+            is_fine: is_fine,
         };
     }
-    let loaded = fill(fd, memory);
+    let loaded = fill(fd, bytes);
     if !loaded.is_fine {
-        os::fail(b"links.bin");
-    }
-    libc::close(fd);
-    loaded
-}
-
-// The text of the file `row`; where it is missing, that is said too.
-pub(crate) fn load_row(text: &mut [u8]) -> Loaded
-    ensures { λ r. ⌜ Counts (r .size) (now (text .exit)) ⌝ }
-{
-    let fd = os::open_read(b"row");
-    if fd < 0 {
-        os::fail(b"row");
-        return Loaded {
-            size: 0,
-            is_fine: false,
-        };
-    }
-    let loaded = fill(fd, text);
-    if !loaded.is_fine {
-        os::fail(b"row");
+        os::fail(name);
     }
     libc::close(fd);
     loaded

@@ -6,18 +6,17 @@ mod word;
 
 use answer::fresh;
 use input::load;
-use input::load_row;
 use libc::STDERR_FILENO;
 use roster::roster::roster_of;
 use roster::seat::bench_of;
-use roster::word::Meaning;
 use seating::heed::Seating;
 use seating::start::alone;
 use seating::start::class_with;
 use serve::serve_until_end;
+use word::ClassWish;
 use word::Wish;
 use word::asked;
-use word::asked_to_show;
+use word::asked_of_class;
 use word::list_class_words;
 use word::list_words;
 
@@ -29,52 +28,28 @@ pub enum Show {
     Lines,
 }
 
-// The module that the command line names serves what arrives until it ends. Where it names none, that is said on standard
+// The module that the command line names serves what arrives until it ends. Where the words are none of ours, that is said on standard
 // error, and nothing is read.
-pub fn sit(show: Show) {
+pub fn sit() {
     match asked() {
-        Meaning::Kind(kind) => sit_as(show, alone(bench_of(kind))),
-        Meaning::Unknown => list_words(),
+        Wish::Bench(kind, show) => serve_all(show, alone(bench_of(kind))),
+        Wish::Unknown => list_words(),
     }
-}
-
-// What goes wrong with a file is said on standard error, and ends it too.
-fn sit_as(show: Show, seating: Seating) {
-    // one byte more than fits, so that a longer file is seen to be unfit
-    let mut memory = [0; 2049];
-    let loaded = load(&mut memory);
-    if !loaded.is_fine {
-        return;
-    }
-    let n = loaded.size;
-    // less than one frame ever waits, so a read always has room
-    let mut held = [0; 4096];
-    let mut room = [0; 5897];
-    // the frames of the longest reply, or its line
-    let mut out = [0; 18432];
-    serve_until_end(
-        show,
-        fresh(seating),
-        &mut memory[..n],
-        &mut held,
-        &mut room,
-        &mut out,
-    );
 }
 
 // The class that the file `row` names serves what arrives until it ends; where a line of it names no module, that is said on standard error,
 // and nothing is served.
 pub fn teach() {
-    match asked_to_show() {
-        Wish::Shown(show) => teach_as(show),
-        Wish::Unknown => list_class_words(),
+    match asked_of_class() {
+        ClassWish::Shown(show) => teach_as(show),
+        ClassWish::Unknown => list_class_words(),
     }
 }
 
 fn teach_as(show: Show) {
     // one byte more than is taken, so that a longer file is seen to be too long
     let mut text = [0; 4097];
-    let loaded = load_row(&mut text);
+    let loaded = load(b"row", true, &mut text);
     if !loaded.is_fine {
         return;
     }
@@ -89,20 +64,22 @@ fn teach_as(show: Show) {
         return;
     }
     let row = roster.row;
-    teach_row(show, class_with(row, roster.count));
+    serve_all(show, class_with(row, roster.count));
 }
 
-// As `sit_as`, with link memory for sixteen shares.
-fn teach_row(show: Show, seating: Seating) {
-    // one byte more than fits
+// What goes wrong with a file is said on standard error, and ends it too.
+fn serve_all(show: Show, seating: Seating) {
+    // one byte more than sixteen shares have, so that a longer file is seen to be unfit
     let mut memory = [0; 32769];
-    let loaded = load(&mut memory);
+    let loaded = load(b"links.bin", false, &mut memory);
     if !loaded.is_fine {
         return;
     }
     let n = loaded.size;
+    // less than one frame ever waits, so a read always has room
     let mut held = [0; 4096];
     let mut room = [0; 5897];
+    // the frames of the longest reply, or its line
     let mut out = [0; 18432];
     serve_until_end(
         show,

@@ -1,4 +1,4 @@
-//! The word on the command line: which kind of module sits at the bench.
+//! The words on the command line: which kind of module sits at the bench.
 
 use std::io::Write;
 use std::process::Stdio;
@@ -9,7 +9,7 @@ use dreelish_tests::program::{command, expected};
 
 use crate::*;
 
-fn output_of(words: &[&str], stream: &[u8]) -> Vec<u8> {
+pub fn output_of(words: &[&str], stream: &[u8]) -> Vec<u8> {
     let folder = Folder::with_links(&LINKS);
     let mut bench = Bench::start_command(command(&folder).args(words));
     bench.send(stream);
@@ -59,10 +59,20 @@ fn a_dimmer_needs_no_word() {
 /// It says which words there are, and serves nothing.
 #[test]
 fn another_word_is_refused() {
-    for word in ["heater", "Outlet", "outlets", "dimme", ""] {
+    let words: [&[&str]; 8] = [
+        &["heater"],
+        &["Outlet"],
+        &["outlets"],
+        &["dimme"],
+        &[""],
+        &["lines", "outlet"],
+        &["outlet", "line"],
+        &["outlet", "lines", "lines"],
+    ];
+    for word in words {
         let folder = Folder::with_links(&LINKS);
         let mut command = command(&folder);
-        command.arg(word).stdin(Stdio::piped());
+        command.args(word).stdin(Stdio::piped());
         command.stdout(Stdio::piped()).stderr(Stdio::piped());
         let mut child = command.spawn().expect("bench starts");
         let mut input = child.stdin.take().expect("input is piped");
@@ -72,9 +82,9 @@ fn another_word_is_refused() {
         let output = child.wait_with_output().expect("bench ends");
         assert_same(&output.stdout, &[]);
         let said = String::from_utf8(output.stderr).expect("it says it in letters");
-        assert_eq!(said.lines().count(), 1, "{word}: {said}");
+        assert_eq!(said.lines().count(), 1, "{word:?}: {said}");
         for listed in ["dimmer", "outlet"] {
-            assert!(said.contains(listed), "{word}: {said}");
+            assert!(said.contains(listed), "{word:?}: {said}");
         }
     }
 }

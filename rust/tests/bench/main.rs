@@ -2,6 +2,7 @@
 
 mod frames;
 mod kinds;
+mod lines;
 mod links;
 mod output;
 mod state;

@@ -1,4 +1,4 @@
-//! `classroom lines`, the instructor's screen. Every expected line was typed from the papers, in the layout that `screen` has.
+//! `classroom lines`, the instructor's screen. Every expected line was typed from the papers, in the layout that `bench lines` has.
 
 use dreelish_tests::example::{standard, LINKS as SHARE};
 

@@ -15,7 +15,7 @@ const RUNS: u64 = 60;
 const FRAMES: usize = 60;
 const MOST_SEATS: usize = 16;
 
-/// The results as `screen` calls them, and those of a class.
+/// The results as `bench lines` calls them, and those of a class.
 const RESULTS: [&str; 12] = [
     "0 carried out",
     "1 bad length",

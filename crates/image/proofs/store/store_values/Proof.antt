@@ -2,7 +2,7 @@ use mathlib.Core.Path.{_∙_, ap}
 use native.Mathlib.Omega.{arith}
 use lib.ListN.{length, length-set}
 use borrow.Author.Needs.{needs}
-use Rattle.image.specs.Image.{values}
+use Rattle.image.specs.Image.{loadValues}
 use Rattle.image.proofs.Values.{values-length}
 use Rattle.image.proofs.store.store_values.Statement.{statement}
 use Rattle.image.proofs.store.store_values.Tie as tie
@@ -19,5 +19,5 @@ store-values-spec =
     (λ c κs. search needs)
     (λ c.
     let g = c .before .before .before .before .before .args in
-    ap length (c .before .before .store-load .ensures) ∙ values-length (values (g .m)) (g .image .now))
+    ap length (c .before .before .store-load .ensures) ∙ values-length (loadValues (g .m .load)) _ ∙ simp length-set)
     (λ c. search needs))

@@ -45,8 +45,8 @@
  * links: link memory, which a linked sender may write. room: the reply goes to its start.
  * report: [0] the reply's length, [1] the records read.
  *
- * The answer is the result number, 0 to 8, or DREELISH_UNFIT, with which nothing is altered. The five places must not overlap;
- * any of them may be empty.
+ * The answer is the result number, 0 to 8, or DREELISH_UNFIT, with which nothing is altered. The five that are lent must not
+ * overlap; any of them may be empty.
  */
 uint64_t dreelish_step(uint8_t *module, size_t module_length, uint8_t *links, size_t links_length, const uint8_t *message,
     size_t message_length, uint8_t *room, size_t room_length, uint64_t *report, size_t report_length);

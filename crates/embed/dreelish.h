@@ -5,32 +5,55 @@
 #include <stddef.h>
 #include <stdint.h>
 
-#define DREELISH_DIMMER 0x01      /* kinds of modules, */
+#define DREELISH_ROOM 5897  /* room for the longest reply */
+#define DREELISH_SEATS 16   /* the most modules of a class */
+#define DREELISH_UNFIT 255  /* what is no module, or a report shorter than 2 */
+
+#define DREELISH_LENGTH 64  /* the bytes of a module, whatever its kind */
+
+#define DREELISH_DIMMER 0x01 /* kinds */
 #define DREELISH_OUTLET 0x02
-#define DREELISH_DIMMER_LENGTH 16 /* and the bytes of each */
-#define DREELISH_OUTLET_LENGTH 15
-#define DREELISH_ROOM 5897        /* room for the longest reply */
-#define DREELISH_SEATS 16         /* the most modules of a class */
-#define DREELISH_UNFIT 255        /* no such kind, modules of other lengths than their kinds', or a report shorter than 2 */
+
+/* the places of a module: who it is, */
+#define DREELISH_KIND 0
+#define DREELISH_HIGH 1 /* of the address */
+#define DREELISH_MIDDLE 2
+#define DREELISH_LOW 3
+#define DREELISH_CATEGORY 4
+#define DREELISH_SUBCATEGORY 5
+#define DREELISH_FIRMWARE 6
+#define DREELISH_REVISION 7
+
+/* what a message may alter, */
+#define DREELISH_FLAGS 8
+#define DREELISH_LED 11
+#define DREELISH_HOUSE 12
+#define DREELISH_UNIT 13
+#define DREELISH_DELTA 14
+
+/* then of a dimmer */
+#define DREELISH_LEVEL 16
+#define DREELISH_RAMP 17
+#define DREELISH_ON_LEVEL 18
+
+/* and of an outlet, each 00 off or 01 on; with any other byte it is no module */
+#define DREELISH_TOP 16
+#define DREELISH_BOTTOM 17
 
 /*
- * module, by places; it is brought up to date from 8 on, and what stands before is never written:
- *   0 its kind, 1 to 3 address, 4 category, 5 subcategory, 6 firmware, 7 hardware revision,
- *   8 flags, 9 LED, 10 house, 11 unit, 12 delta,
- *   then of a dimmer 13 level, 14 ramp, 15 on level,
- *   and of an outlet 13 top socket, 14 bottom socket: 00 off, 01 on; any other byte counts as on, and is left as 01.
+ * module: by the places above. Who it is is never written, and a byte at none of its kind's places is left as it stands.
  * links: link memory, which a linked sender may write. room: the reply goes to its start.
  * report: [0] the reply's length, [1] the records read.
  *
- * The answer is the result number, 0 to 8, or DREELISH_UNFIT, with which nothing is altered. The five places must not overlap;
- * any of them may be empty.
+ * The answer is the result number, 0 to 8, or DREELISH_UNFIT, with which nothing is altered. The five that are lent must not
+ * overlap; any of them may be empty.
  */
 uint64_t dreelish_step(uint8_t *module, size_t module_length, uint8_t *links, size_t links_length, const uint8_t *message,
     size_t message_length, uint8_t *room, size_t room_length, uint64_t *report, size_t report_length);
 
 /*
- * The same to a class. modules: `count` modules by places as above, each directly behind the one before it, and nothing else. links: one link
- * memory, whose equal parts are the modules' own, in their order.
+ * The same to a class. modules: `count` modules, seat k at DREELISH_LENGTH * k, and nothing else; only those that are served are written.
+ * links: one link memory, whose equal parts are the modules' own, in their order.
  *
  * The answer is the result number, 0 to 11, or DREELISH_UNFIT, with which nothing is altered; a count that does not fit the bytes is so. With
  * more than DREELISH_SEATS modules it is 11, and they are left as they stand.

@@ -128,7 +128,7 @@ impl Example {
                 length: comes.reply.len(),
                 read: comes.read,
             },
-            images: library::image(&comes.module),
+            images: library::image(&comes.module).to_vec(),
             links: comes.links.clone(),
             room: laid(&comes.reply, self.room),
         };

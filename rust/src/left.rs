@@ -32,7 +32,7 @@ impl Left {
         mut room: Vec<u8>,
     ) -> Self {
         let outcome = paper::step(module, links, message, &mut room);
-        Self::new(outcome, library::image(module), links, room)
+        Self::new(outcome, library::image(module).to_vec(), links, room)
     }
 
     /// By the library, in a class of `count` seats.

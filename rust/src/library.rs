@@ -7,19 +7,19 @@ use crate::paper::{Identity, Load, Module, Outcome};
 /// The number for a module's image or a report that does not fit.
 pub const UNFIT: u64 = 255;
 
-/// The first byte of a module's image.
-pub const DIMMER: u8 = 0x01;
-pub const OUTLET: u8 = 0x02;
+/// Where an image has what, and the kinds: the very file that the library has them from.
+pub mod places {
+    include!("../../crates/image/src/places.rt");
+}
 
-/// The bytes of an image, by its kind.
-const DIMMER_LENGTH: usize = 16;
-const OUTLET_LENGTH: usize = 15;
+/// What a byte holds that no value stands at, so that a write there shows.
+pub const UNUSED: u8 = 0xA5;
 
 /// A report that is not written shows.
 const UNWRITTEN: [u64; 2] = [u64::MAX; 2];
 
-/// The module as the library keeps it; how long that is depends on its kind.
-pub type Image = Vec<u8>;
+/// The module as the library keeps it.
+pub type Image = [u8; places::LENGTH];
 
 mod c {
     extern "C" {
@@ -133,29 +133,46 @@ fn outcome(result: u64, [length, read]: [u64; 2]) -> Outcome {
     }
 }
 
-/// The image of a module, in the order that the header gives.
+/// The image of a module.
 pub fn image(module: &Module) -> Image {
+    let mut image = [UNUSED; places::LENGTH];
     let Identity {
-        address: [a0, a1, a2],
+        address: [high, middle, low],
         category,
         subcategory,
         firmware,
         hardware,
     } = module.identity;
-    let (kind, load) = match module.load {
-        Load::Lamp(lamp) => (DIMMER, vec![lamp.level, lamp.ramp, lamp.on_level]),
-        Load::Sockets(sockets) => (OUTLET, vec![sockets.top.into(), sockets.bottom.into()]),
-    };
-    let who = [kind, a0, a1, a2, category, subcategory, firmware, hardware];
-    let Module {
-        flags,
-        led,
-        house,
-        unit,
-        delta,
-        ..
-    } = *module;
-    [&who[..], &[flags, led, house, unit, delta], &load].concat()
+    image[places::HIGH] = high;
+    image[places::MIDDLE] = middle;
+    image[places::LOW] = low;
+    image[places::CATEGORY] = category;
+    image[places::SUBCATEGORY] = subcategory;
+    image[places::FIRMWARE] = firmware;
+    image[places::REVISION] = hardware;
+    image[places::FLAGS] = module.flags;
+    image[places::LED] = module.led;
+    image[places::HOUSE] = module.house;
+    image[places::UNIT] = module.unit;
+    image[places::DELTA] = module.delta;
+    lay_load(&mut image, &module.load);
+    image
+}
+
+fn lay_load(image: &mut Image, load: &Load) {
+    match load {
+        Load::Lamp(lamp) => {
+            image[places::KIND] = places::DIMMER;
+            image[places::LEVEL] = lamp.level;
+            image[places::RAMP] = lamp.ramp;
+            image[places::ON_LEVEL] = lamp.on_level;
+        }
+        Load::Sockets(sockets) => {
+            image[places::KIND] = places::OUTLET;
+            image[places::TOP] = sockets.top.into();
+            image[places::BOTTOM] = sockets.bottom.into();
+        }
+    }
 }
 
 /// The images of a row, as a class is lent.
@@ -164,17 +181,6 @@ pub fn images(row: &[Module]) -> Vec<u8> {
 }
 
 /// The images of a class, one by one.
-pub fn seats(mut images: &[u8]) -> Vec<&[u8]> {
-    let mut seats = Vec::new();
-    while let [kind, ..] = *images {
-        let length = match kind {
-            DIMMER => DIMMER_LENGTH,
-            OUTLET => OUTLET_LENGTH,
-            _ => panic!("there is no kind {kind:02X}"),
-        };
-        let (seat, rest) = images.split_at(length);
-        seats.push(seat);
-        images = rest;
-    }
-    seats
+pub fn seats(images: &[u8]) -> Vec<&[u8]> {
+    images.chunks_exact(places::LENGTH).collect()
 }

@@ -51,7 +51,7 @@ fn run_sequence(kind: ModuleKind, sequence: u64, tally: &mut Tally) -> usize {
     for number in 0..count {
         let message = message(&mut random, scene.seat());
         let room = vec![random.byte(); room_length(&mut random)];
-        let before = (image.clone(), links.clone());
+        let before = (image, links.clone());
         let by_library = Left::by_library(&mut image, &mut links, &message, room.clone());
         let by_paper = Left::by_paper(&mut scene.module, &mut scene.links, &message, room);
         if by_library != by_paper {

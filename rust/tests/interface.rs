@@ -1,24 +1,39 @@
 //! What the library lends and takes back: images of both kinds, rows of them, and what it refuses before it looks at a message.
 
-use dreelish_tests::library::{self, DIMMER, OUTLET, UNFIT};
+use dreelish_tests::library::places::{self, BOTTOM, DIMMER, KIND, LENGTH, LOW, OUTLET, TOP};
+use dreelish_tests::library::{self, UNFIT, UNUSED};
 use dreelish_tests::paper::{Module, ModuleKind};
 
 const PING: [u8; 9] = [0xAA, 0xBB, 0xCC, 0x00, 0x10, 0x3A, 0x0F, 0x0F, 0x00];
+const ON: [u8; 9] = [0xAA, 0xBB, 0xCC, 0x00, 0x10, 0x3A, 0x0F, 0x11, 0x80];
 const BOTH_SOCKETS: [u8; 9] = [0xAA, 0xBB, 0xCC, 0x00, 0x10, 0x3A, 0x0F, 0x19, 0x01];
 
 const KINDS: [ModuleKind; 2] = [ModuleKind::Dimmer, ModuleKind::Outlet];
 
 /// As dreelish.h has it: kind, identity, flags, LED, house, unit, delta, and then the load.
 #[rustfmt::skip]
-const FRESH_DIMMER: [u8; 16] = [
+const FRESH_DIMMER: [u8; 64] = filled([
     0x01, 0x00, 0x10, 0x3A, 0x01, 0x0F, 0xC1, 0x00,
-    0x00, 0x3F, 0x20, 0x20, 0x00, 0x00, 0x1F, 0xFF,
-];
+    0x00, UNUSED, UNUSED, 0x3F, 0x20, 0x20, 0x00, UNUSED,
+    0x00, 0x1F, 0xFF,
+]);
 #[rustfmt::skip]
-const FRESH_OUTLET: [u8; 15] = [
+const FRESH_OUTLET: [u8; 64] = filled([
     0x02, 0x00, 0x10, 0x3A, 0x02, 0x39, 0xC2, 0x00,
-    0x00, 0x3F, 0x20, 0x20, 0x00, 0x00, 0x00,
-];
+    0x00, UNUSED, UNUSED, 0x3F, 0x20, 0x20, 0x00, UNUSED,
+    0x00, 0x00, UNUSED,
+]);
+
+/// With what no kind uses behind it.
+const fn filled(first: [u8; 19]) -> [u8; 64] {
+    let mut image = [UNUSED; 64];
+    let mut at = 0;
+    while at < first.len() {
+        image[at] = first[at];
+        at += 1;
+    }
+    image
+}
 
 /// What is lent around a message that would be carried out if all of it fitted.
 #[derive(Clone, Debug, PartialEq)]
@@ -106,9 +121,9 @@ fn images_are_laid_out_as_the_header_says() {
 fn an_image_of_another_length_is_unfit() {
     for kind in KINDS {
         let fresh = library::image(&Module::bench(kind));
-        let others = (0..40).chain([255, 256, 4096]);
-        for length in others.filter(|&length| length != fresh.len()) {
-            let mut image = fresh.clone();
+        let others = (0..200).chain([255, 256, 4096]);
+        for length in others.filter(|&length| length != LENGTH) {
+            let mut image = fresh.to_vec();
             image.resize(length, 0x77);
             Lent::new(&image, 2).assert_refused();
         }
@@ -118,9 +133,8 @@ fn an_image_of_another_length_is_unfit() {
 #[test]
 fn a_kind_that_there_is_not_is_unfit() {
     for kind in (0x00..=0xFF).filter(|kind| ![DIMMER, OUTLET].contains(kind)) {
-        for length in [15, 16] {
-            let mut image = FRESH_DIMMER[..length].to_vec();
-            image[0] = kind;
+        for mut image in [FRESH_DIMMER, FRESH_OUTLET] {
+            image[KIND] = kind;
             Lent::new(&image, 2).assert_refused();
         }
     }
@@ -131,7 +145,7 @@ fn a_short_report_is_unfit() {
     for length in 0..2 {
         Lent::new(&FRESH_DIMMER, length).assert_refused();
         Lent::new(&FRESH_OUTLET, length).assert_refused();
-        Lent::new(&FRESH_DIMMER[..15], length).assert_refused();
+        Lent::new(&FRESH_DIMMER[1..], length).assert_refused();
     }
 }
 
@@ -147,26 +161,73 @@ fn a_report_is_written_in_its_first_two_places_only() {
     }
 }
 
-/// 19 01 shows what was read, and the image has 01 afterwards.
+/// 19 01 shows what was read.
 #[test]
-fn any_byte_but_00_is_a_socket_that_is_on() {
-    for byte in 0x01..=0xFF {
-        for (top, bottom, shown) in [(byte, 0x00, 0x01), (0x00, byte, 0x02), (byte, byte, 0x03)] {
+fn a_socket_is_00_or_01() {
+    for (top, bottom, shown) in [(0, 0, 0x00), (1, 0, 0x01), (0, 1, 0x02), (1, 1, 0x03)] {
+        let mut image = FRESH_OUTLET;
+        (image[TOP], image[BOTTOM]) = (top, bottom);
+        let mut lent = Lent::new(&image, 2);
+        assert_eq!(lent.call(&BOTH_SOCKETS), 0);
+        assert_eq!(lent.room[6..9], [0x2F, 0x00, shown]);
+        assert_eq!(lent.image, image);
+    }
+}
+
+#[test]
+fn another_socket_byte_is_unfit() {
+    for byte in 0x02..=0xFF {
+        for place in [TOP, BOTTOM] {
             let mut image = FRESH_OUTLET;
-            image[13..].copy_from_slice(&[top, bottom]);
-            let mut lent = Lent::new(&image, 2);
-            assert_eq!(lent.call(&BOTH_SOCKETS), 0);
-            assert_eq!(lent.room[6..9], [0x2F, 0x00, shown]);
-            image[13..].copy_from_slice(&[top.min(1), bottom.min(1)]);
-            assert_eq!(lent.image, image);
+            image[place] = byte;
+            Lent::new(&image, 2).assert_refused();
+        }
+    }
+}
+
+/// A dimmer has no socket: any byte at those places is its level or its ramp.
+#[test]
+fn any_byte_is_a_level() {
+    for byte in 0x00..=0xFF {
+        let mut image = FRESH_DIMMER;
+        (image[places::LEVEL], image[places::RAMP]) = (byte, byte);
+        let mut lent = Lent::new(&image, 2);
+        assert_eq!(lent.call(&PING), 0);
+        assert_eq!(lent.image, image);
+    }
+}
+
+/// Whatever stands where a kind has nothing stays there, while the message alters what it alters.
+#[test]
+fn an_unused_byte_is_kept() {
+    let load = |kind| match kind {
+        ModuleKind::Dimmer => vec![places::LEVEL, places::RAMP, places::ON_LEVEL],
+        ModuleKind::Outlet => vec![TOP, BOTTOM],
+    };
+    for kind in KINDS {
+        let used = (0..=places::FLAGS).chain(places::LED..=places::DELTA);
+        let used: Vec<usize> = used.chain(load(kind)).collect();
+        for place in (0..LENGTH).filter(|place| !used.contains(place)) {
+            for byte in [0x00, 0x01, 0x77, 0xFF] {
+                let mut image = library::image(&Module::bench(kind));
+                image[place] = byte;
+                let mut lent = Lent::new(&image, 2);
+                assert_eq!(lent.call(&ON), 0);
+                image[places::LEVEL] = if kind == ModuleKind::Dimmer {
+                    0x80
+                } else {
+                    0x01
+                };
+                assert_eq!(lent.image, image, "{kind:?}, place {place}");
+            }
         }
     }
 }
 
 /// A dimmer, an outlet and a dimmer at addresses that differ; the ping is for the first.
 fn three() -> Vec<u8> {
-    let mut images = [&FRESH_DIMMER[..], &FRESH_OUTLET, &FRESH_DIMMER].concat();
-    (images[16 + 3], images[31 + 3]) = (0x3B, 0x3C);
+    let mut images = [FRESH_DIMMER, FRESH_OUTLET, FRESH_DIMMER].concat();
+    (images[LENGTH + LOW], images[2 * LENGTH + LOW]) = (0x3B, 0x3C);
     images
 }
 
@@ -185,7 +246,8 @@ fn a_row_of_three_is_served() {
 
 #[test]
 fn a_row_of_another_count_is_unfit() {
-    for count in [0, 1, 2, 4, 15, 16, 17, 47, 1 << 32, usize::MAX] {
+    let wrapped = (1 << 58) + 3; // times 64 it is what three are
+    for count in [0, 1, 2, 4, 15, 16, 17, 192, wrapped, usize::MAX] {
         Lent::row(&three(), 3).assert_class_refused(count);
     }
     Lent::row(&[], 1).assert_class_refused(1);
@@ -195,27 +257,52 @@ fn a_row_of_another_count_is_unfit() {
 #[test]
 fn a_row_cut_short_or_drawn_out_is_unfit() {
     let whole = three();
-    for length in (0..100).filter(|&length| length != whole.len()) {
+    for length in (0..400).filter(|&length| length != whole.len()) {
         let mut images = whole.clone();
         images.resize(length, 0x77);
         Lent::row(&images, 3).assert_class_refused(3);
     }
-    for seat in [0, 16, 31] {
+    for seat in 0..3 {
         let mut images = whole.clone();
-        images.remove(seat + 12);
+        images.remove(seat * LENGTH + 12);
         Lent::row(&images, 3).assert_class_refused(3);
     }
 }
 
-/// Also one that makes the image another byte long, so that all behind it is read elsewhere.
+/// Whichever seat has it: the message is for the first.
 #[test]
 fn a_row_with_a_kind_that_there_is_not_is_unfit() {
-    for (seat, own) in [(0, DIMMER), (16, OUTLET), (31, DIMMER)] {
-        for kind in (0x00..=0xFF).filter(|&kind| kind != own) {
+    for seat in 0..3 {
+        for kind in (0x00..=0xFF).filter(|kind| ![DIMMER, OUTLET].contains(kind)) {
             let mut images = three();
-            images[seat] = kind;
+            images[seat * LENGTH + KIND] = kind;
             Lent::row(&images, 3).assert_class_refused(3);
         }
+    }
+}
+
+#[test]
+fn a_row_with_another_socket_byte_is_unfit() {
+    for byte in 0x02..=0xFF {
+        for place in [TOP, BOTTOM] {
+            let mut images = three();
+            images[LENGTH + place] = byte;
+            Lent::row(&images, 3).assert_class_refused(3);
+        }
+    }
+}
+
+/// Also what no kind uses, of whoever is served and of the neighbours.
+#[test]
+fn only_the_image_of_who_is_served_is_written() {
+    for seat in 0..3 {
+        let mut lent = Lent::row(&three(), 3);
+        let mut message = ON;
+        message[5] += seat as u8;
+        assert_eq!(lent.call_class(3, &message), 0);
+        let mut images = three();
+        images[seat * LENGTH + places::LEVEL] = if seat == 1 { 0x01 } else { 0x80 };
+        assert_eq!(lent.image, images, "seat {seat}");
     }
 }
 
@@ -251,30 +338,15 @@ fn an_empty_row_is_eleven() {
     assert_eq!(nothing.report, [0, 0]);
 }
 
-/// Such images are left as they stand, even a socket's byte that is neither 00 nor 01.
+/// Such images are left as they stand; where one of them is none, it is the caller's fault and not the row's.
 #[test]
 fn seventeen_are_eleven() {
-    let mut outlet = FRESH_OUTLET;
-    outlet[13..].copy_from_slice(&[0x77, 0xFF]);
+    let mut none = FRESH_OUTLET;
+    none[TOP] = 0x77;
     for count in [17, 18, 100] {
         Lent::row(&FRESH_DIMMER.repeat(count), count).assert_eleven(count);
-        Lent::row(&outlet.repeat(count), count).assert_eleven(count);
-        Lent::row(&outlet.repeat(count), count).assert_class_refused(16);
-    }
-}
-
-/// So it is at every seat, whichever the message is for, and where it is refused.
-#[test]
-fn any_byte_but_00_is_a_socket_of_a_row_that_is_on() {
-    for byte in [0x01, 0x02, 0x77, 0x80, 0xFF] {
-        let mut images = three();
-        images[16 + 13..31].copy_from_slice(&[byte, 0x00]);
-        let mut served = Lent::row(&images, 3);
-        let mut refused = Lent::row(&images, 2);
-        images[16 + 13] = 0x01;
-        assert_eq!(served.call_class(3, &PING), 0);
-        assert_eq!(served.image, images);
-        assert_eq!(refused.call_class(3, &PING), 11);
-        assert_eq!(refused.image, images);
+        Lent::row(&FRESH_OUTLET.repeat(count), count).assert_eleven(count);
+        Lent::row(&FRESH_OUTLET.repeat(count), count).assert_class_refused(16);
+        Lent::row(&none.repeat(count), count).assert_class_refused(count);
     }
 }

@@ -75,8 +75,6 @@ struct Counts {
     otherwise: usize,
     /// Of messages to the others.
     chatter: usize,
-    /// Pairs in which her image is at two places, since kinds before it differ.
-    moved: usize,
 }
 
 /// Two runs that have her module, her share and the row of addresses in common.
@@ -97,14 +95,6 @@ impl Pair {
             her: class.row[seat].identity.address,
             runs: [class, other].map(Run::of),
         }
-    }
-
-    fn is_moved(&self) -> bool {
-        let [one, other] = self.runs.each_ref().map(|run| {
-            let before = &library::seats(&run.images)[..self.seat];
-            before.concat().len()
-        });
-        one != other
     }
 
     fn chatter(&mut self, random: &mut Random) -> usize {
@@ -160,14 +150,12 @@ fn a_thousand_quiet_pupils() {
     assert!(counts.carried_out >= 5_000 && counts.refused >= 5_000);
     assert!(counts.written_to_her_share >= 500 && counts.altered >= 500);
     assert!(counts.otherwise >= 1_000 && counts.chatter >= 5_000);
-    assert!(counts.moved >= 300);
 }
 
 /// Each pair has random numbers of its own, so that it can be run again by itself.
 fn run_pair(number: u64, counts: &mut Counts) {
     let mut random = Random::new(SEED, number);
     let mut pair = Pair::any(&mut random);
-    counts.moved += usize::from(pair.is_moved());
     for at in 0..SHARED {
         counts.chatter += pair.chatter(&mut random);
         let message = pair.message(&mut random);

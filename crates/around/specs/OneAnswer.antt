@@ -85,7 +85,7 @@ use Rattle.roster.specs.Seat.{freshAs, freshAt, benchOf}
 use Rattle.roster.specs.Line.{lineOf}
 use Rattle.roster.specs.Roster.{rosterOf}
 use Rattle.image.specs.declared.held.Held.{Held}
-use Rattle.image.specs.Image.{sizeOf, heldIn, storedIfOwn, tidied}
+use Rattle.image.specs.Image.{isImage, heldIn, storedIfOwn}
 use Rattle.image.specs.Returned.{Returned, Returns}
 use Rattle.embed.specs.Call.{returnedOf}
 use Rattle.embed_class.specs.ClassCall.{classReturnedOf}
@@ -201,9 +201,8 @@ pub record EachOnce : Type 0 where
   pub roster-line-of : (line : List ℕ) → Only (λ (r : Line). r ≡ lineOf line)
   pub roster-roster-of : (text : List ℕ) → Only (λ (r : Roster). r ≡ rosterOf text)
   pub image-held-in : (image : List ℕ) → Only (λ (r : Held). r ≡ heldIn image)
-  pub image-size-of : (images : List ℕ) → Only (λ (r : ℕ). r ≡ sizeOf images)
+  pub image-is-image : (image : List ℕ) → Only (λ (r : Bool). r ≡ isImage image)
   pub image-store : (image : List ℕ) (m : Module) → Only (λ (after : List ℕ). after ≡ storedIfOwn image m)
-  pub image-tidy : (image : List ℕ) → Only (λ (after : List ℕ). after ≡ tidied image)
   pub image-tell : (report : List ℕ) (sent read : ℕ) → Only (λ (after : List ℕ). after ≡ laidIfFits report (sent ∷ read ∷ []))
   pub embed-dreelish-step : (image l s room report : List ℕ)
       → Only (λ (c : Returned). Returns (returnedOf image l s room report) (c .number) (c .image) (c .links) (c .room) (c .report))

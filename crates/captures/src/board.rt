@@ -4,33 +4,17 @@ use crate::text::bytes_in;
 use crate::text::number_in;
 use basis::min;
 use embed::call::dreelish_step;
-ghost use Prim.Native.Nat.{_≤_};
+use image::places;
 ghost use Rattle.io.specs.Counts.{Counts};
 
 // What the room holds before a message.
 pub(crate) const BLANK: u8 = 0xee;
 
-// A module, byte by byte, with the number of its kind first; an outlet's has a byte fewer.
-pub(crate) type Image = [u8; 16];
+// A module, byte by byte.
+pub(crate) type Image = [u8; places::LENGTH];
 
-// The number of an outlet; any other is taken for a dimmer's.
-pub(crate) const OUTLET: u8 = 0x02;
-
-// Fresh modules, but for the seven bytes that say who they are: flags 00, LED 3F, house and unit 20, delta 00; then level 00,
-// ramp 1F, on level FF; or top and bottom off, and the byte that is none of an outlet's.
-pub(crate) const FRESH_DIMMER: Image = *b"\x01\0\0\0\0\0\0\0\x00\x3f\x20\x20\x00\x00\x1f\xff";
-
-pub(crate) const FRESH_OUTLET: Image = *b"\x02\0\0\0\0\0\0\0\x00\x3f\x20\x20\x00\x00\x00\0";
-
-// How many bytes the image of a kind has.
-pub(crate) fn image_size(image: Image) -> usize
-    ensures { λ r. ⌜ r ≤ 16 ⌝ }
-{
-    match image[0] {
-        OUTLET => 15,
-        _ => 16,
-    }
-}
+// What a byte holds that no value of a fresh module stands at, so that a write there would be shown.
+const UNUSED: u8 = 0xa5;
 
 pub(crate) struct State {
     pub module: Image,
@@ -54,16 +38,44 @@ pub(crate) struct Board {
     pub differ: u64,
 }
 
+// Fresh modules, but for the seven bytes that say who they are.
+pub(crate) fn fresh_dimmer() -> Image {
+    let mut image = fresh(places::DIMMER);
+    image[places::LEVEL] = 0x00;
+    image[places::RAMP] = 0x1f;
+    image[places::ON_LEVEL] = 0xff;
+    image
+}
+
+pub(crate) fn fresh_outlet() -> Image {
+    let mut image = fresh(places::OUTLET);
+    image[places::TOP] = 0x00;
+    image[places::BOTTOM] = 0x00;
+    image
+}
+
+fn fresh(kind: u8) -> Image {
+    let mut image = [UNUSED; places::LENGTH];
+    image[places::KIND] = kind;
+    image[places::FLAGS] = 0x00;
+    image[places::LED] = 0x3f;
+    image[places::HOUSE] = 0x20;
+    image[places::UNIT] = 0x20;
+    image[places::DELTA] = 0x00;
+    image
+}
+
 pub(crate) fn blank() -> Board {
+    let dimmer = fresh_dimmer();
     let state = State {
-        module: FRESH_DIMMER,
+        module: dimmer,
         links: [0; 2056],
         size: 0,
     };
     Board {
         start: state,
         now: state,
-        before: FRESH_DIMMER,
+        before: dimmer,
         room: [BLANK; 5897],
         room_size: 5897,
         result: 0,
@@ -158,7 +170,6 @@ fn stepped(board: Board, module: Image, links: [u8; 2056], message: &[u8]) -> Bo
     let size = now.size;
     let k = board.room_size;
     let before = module;
-    let n = image_size(module);
     let mut module = module;
     let mut links = links;
     let mut room = [BLANK; 5897];
@@ -170,7 +181,7 @@ fn stepped(board: Board, module: Image, links: [u8; 2056], message: &[u8]) -> Bo
         return next;
     }
     next.result = dreelish_step(
-        &mut module[0..n],
+        &mut module,
         &mut links[0..size],
         message,
         &mut room[0..k],

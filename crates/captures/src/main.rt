@@ -17,9 +17,9 @@ mod text;
 mod values;
 
 use board::Board;
-use board::FRESH_DIMMER;
-use board::FRESH_OUTLET;
 use board::blank;
+use board::fresh_dimmer;
+use board::fresh_outlet;
 use board::hear;
 use compare::told;
 use text::line_end;
@@ -59,8 +59,8 @@ fn take(board: Board, line: &[u8]) -> Board {
     }
     match line[0] {
         b'#' | b'\n' => board,
-        b'i' => board.identified(line, FRESH_DIMMER),
-        b'o' => board.identified(line, FRESH_OUTLET),
+        b'i' => board.identified(line, fresh_dimmer()),
+        b'o' => board.identified(line, fresh_outlet()),
         b'w' => given(board, line),
         b'l' => board.with_links(line),
         b'f' => board.filled(line),

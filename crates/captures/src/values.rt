@@ -1,8 +1,6 @@
 // The values of a module by name, as a line gives or expects them.
 use crate::board::Board;
 use crate::board::Image;
-use crate::board::OUTLET;
-use crate::board::image_size;
 use crate::compare::differed;
 use crate::compare::matched;
 use crate::compare::show_digits;
@@ -10,14 +8,53 @@ use crate::compare::unread;
 use crate::text::byte_of;
 use crate::text::is_equal;
 use crate::text::next_word;
+use image::places;
 use libc::STDOUT_FILENO;
 
-// The names of an image's bytes, in their order; those of kind and identity too, so that a change there would be shown.
+// The names of an image's bytes, and their places in the same order; those of kind and identity too, so that a change there
+// would be shown.
 const DIMMER_NAMES: [u8; 107] =
     *b"kind high middle low category subcategory firmware revision flags led house unit delta level ramp on-level ";
 
+const DIMMER_PLACES: [usize; 16] = [
+    places::KIND,
+    places::HIGH,
+    places::MIDDLE,
+    places::LOW,
+    places::CATEGORY,
+    places::SUBCATEGORY,
+    places::FIRMWARE,
+    places::REVISION,
+    places::FLAGS,
+    places::LED,
+    places::HOUSE,
+    places::UNIT,
+    places::DELTA,
+    places::LEVEL,
+    places::RAMP,
+    places::ON_LEVEL,
+];
+
 const OUTLET_NAMES: [u8; 98] =
     *b"kind high middle low category subcategory firmware revision flags led house unit delta top bottom ";
+
+const OUTLET_PLACES: [usize; 15] = [
+    places::KIND,
+    places::HIGH,
+    places::MIDDLE,
+    places::LOW,
+    places::CATEGORY,
+    places::SUBCATEGORY,
+    places::FIRMWARE,
+    places::REVISION,
+    places::FLAGS,
+    places::LED,
+    places::HOUSE,
+    places::UNIT,
+    places::DELTA,
+    places::TOP,
+    places::BOTTOM,
+];
 
 // Before a message: the values that a line names, and the others as they are.
 pub(crate) fn given(board: Board, line: &[u8]) -> Board {
@@ -61,9 +98,8 @@ struct Made {
 }
 
 fn with_named(image: Image, line: &[u8]) -> Made {
-    let n = image_size(image);
     let mut image = image;
-    let is_read = set_values(&mut image[0..n], line);
+    let is_read = set_values(&mut image, line);
     Made {
         image: image,
         is_read: is_read,
@@ -89,7 +125,7 @@ fn set_value(image: &mut [u8], name: &[u8], value: &[u8]) -> bool {
     if image.len() == 0 {
         return false;
     }
-    let place = place_of(image[0], name);
+    let place = place_of(image[places::KIND], name);
     if place >= image.len() {
         return false;
     }
@@ -104,19 +140,21 @@ fn set_value(image: &mut [u8], name: &[u8], value: &[u8]) -> bool {
 // Where the value of a name stands in an image of a kind; behind its end where there is none.
 fn place_of(kind: u8, name: &[u8]) -> usize {
     match kind {
-        OUTLET => {
+        places::OUTLET => {
             let names = OUTLET_NAMES;
-            place_in(&names, name)
+            let spots = OUTLET_PLACES;
+            place_in(&names, &spots, name)
         }
         _ => {
             let names = DIMMER_NAMES;
-            place_in(&names, name)
+            let spots = DIMMER_PLACES;
+            place_in(&names, &spots, name)
         }
     }
 }
 
-fn place_in(names: &[u8], name: &[u8]) -> usize {
-    let mut place: usize = 0;
+fn place_in(names: &[u8], spots: &[usize], name: &[u8]) -> usize {
+    let mut n: usize = 0;
     let mut at: usize = 0;
     while at < names.len() {
         let end = next_word(names, at + 1);
@@ -124,33 +162,42 @@ fn place_in(names: &[u8], name: &[u8]) -> usize {
             break;
         }
         at = end;
-        place += 1;
+        n += 1;
     }
-    place
+    place_at(spots, n)
+}
+
+fn place_at(spots: &[usize], n: usize) -> usize {
+    if n < spots.len() {
+        return spots[n];
+    }
+    places::LENGTH
 }
 
 // What is not as it was, in the form of a `then` line.
 fn show_changes(before: &Image, came: &Image) {
-    match came[0] {
-        OUTLET => {
+    match came[places::KIND] {
+        places::OUTLET => {
             let names = OUTLET_NAMES;
-            show_named(&names, before, came)
+            let spots = OUTLET_PLACES;
+            show_named(&names, &spots, before, came)
         }
         _ => {
             let names = DIMMER_NAMES;
-            show_named(&names, before, came)
+            let spots = DIMMER_PLACES;
+            show_named(&names, &spots, before, came)
         }
     }
 }
 
-fn show_named(names: &[u8], before: &Image, came: &Image) {
-    let mut place: usize = 0;
+fn show_named(names: &[u8], spots: &[usize], before: &Image, came: &Image) {
+    let mut n: usize = 0;
     let mut at: usize = 0;
     while at < names.len() {
         let end = next_word(names, at + 1);
-        show_change(&names[at..end], before, came, place);
+        show_change(&names[at..end], before, came, place_at(spots, n));
         at = end;
-        place += 1;
+        n += 1;
     }
 }
 

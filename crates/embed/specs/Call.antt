@@ -8,19 +8,19 @@ use Rattle.basis.specs.Choice.{choose}
 use Rattle.basis.specs.Laid.{laid}
 use Rattle.results.specs.Number.{numberOf}
 use Rattle.device.specs.Step.{Step, stepOf}
-use Rattle.image.specs.Image.{isImage, moduleOf, imageOf}
+use Rattle.image.specs.Image.{isImage, moduleOf, storedIn}
 use Rattle.image.specs.Returned.{Returned}
 
--- an image of a kind that there is, as long as that kind's, and a report of two numbers or more
+-- an image, and a report of two numbers or more
 abbrev pub placed : List ℕ → List ℕ → Bool
 placed image report = isImage image && leb 2 (length report)
 
--- the report begins with the reply's length and the records read
-abbrev pub reported : List ℕ → Step → Returned
-reported report t =
+-- the module afterwards is stored in the image; the report begins with the reply's length and the records read
+abbrev pub reported : List ℕ → List ℕ → Step → Returned
+reported image report t =
     record {
       number = numberOf (t .outcome);
-      image = imageOf (t .next);
+      image = storedIn image (t .next);
       links = t .links;
       room = t .room;
       report = laid (length (t .reply) ∷ t .read ∷ []) report;
@@ -28,5 +28,5 @@ reported report t =
 
 unfoldable pub returnedOf : List ℕ → List ℕ → List ℕ → List ℕ → List ℕ → Returned
 returnedOf image links message room report =
-    choose (placed image report) (reported report (stepOf (moduleOf image) links message room))
+    choose (placed image report) (reported image report (stepOf (moduleOf image) links message room))
     (record { number = 255; image = image; links = links; room = room; report = report })

@@ -1,10 +1,10 @@
 -- What the call to a class comes to, by its parts.
 use Prim.Native.Nat.{ℕ, _≤_, _<_}
-use mathlib.Core.Path.{_≡_, refl, _∙_}
+use mathlib.Core.Path.{_≡_, refl, sym, _∙_}
 use mathlib.Core.Bool.{true, false}
 use mathlib.Core.List.{List, [], _∷_}
 use lib.ListN.{length}
-use borrow.Author.Tests.{le-leb, lt-ltb, le-ltb}
+use borrow.Author.Tests.{le-leb}
 use Rattle.basis.specs.Choice.{choose}
 use Rattle.basis.specs.Laid.{laid, laidIfFits}
 use Rattle.basis.proofs.Laid.{fits}
@@ -17,7 +17,8 @@ use Rattle.embed_class.specs.Row.{isRow, rowOf}
 use Rattle.image.specs.Returned.{Returns}
 use Rattle.embed_class.specs.ClassCall.{seated, classReturnedOf}
 use Rattle.embed_class.specs.Serve.{RowComes}
-use Rattle.embed_class.proofs.Started.{row-length}
+use Rattle.embed_class.proofs.Images.{row-images, row-count}
+use Rattle.embed_class.proofs.Stored.{row-stays}
 
 module _ (images : List ℕ) (count : ℕ) (links message room report : List ℕ) where
   abbrev step : ClassStep
@@ -36,17 +37,18 @@ module _ (images : List ℕ) (count : ℕ) (links message room report : List ℕ
         → Returns (classReturnedOf images count links message room report) r images links room report'
     unfolding classReturnedOf classOf choose
     crowd many report' r told q =
-        let unfit = crowded (length (rowOf count images)) (length links) (rw (row-length count images) many) in
-        rw (is-seated, unfit, lt-ltb 16 count many)
-        (record { number = q; image-after = refl; links-after = refl; room-after = refl; report-after = told ∙ fits report (0 ∷ 0 ∷ []) h })
+        let unfit = crowded (length (rowOf count images)) (length links) (rw (row-count count images) many) in
+        let stays = row-stays count images (row-images count images row) in
+        rw (is-seated, unfit)
+        (record { number = q; image-after = sym stays; links-after = refl; room-after = refl; report-after = told ∙ fits report (0 ∷ 0 ∷ []) h })
 
     -- a row of sixteen or fewer
-    pub served : count ≤ 16 → (answer : ClassAnswer) (images' links' room' report' : List ℕ) (r : ℕ) → RowComes step answer images' links' room'
+    pub served : (answer : ClassAnswer) (images' links' room' report' : List ℕ) (r : ℕ) → RowComes images step answer images' links' room'
         → report' ≡ laidIfFits report (answer .length ∷ answer .read ∷ []) → r ≡ classNumberOf (answer .outcome)
         → Returns (classReturnedOf images count links message room report) r images' links' room' report'
     unfolding classReturnedOf choose
-    served few answer images' links' room' report' r p told q =
-        rw (is-seated, le-ltb 16 count few)
+    served answer images' links' room' report' r p told q =
+        rw is-seated
         (record {
           number = q ∙ p .comes .number;
           image-after = p .images-after;

@@ -1,65 +1,80 @@
 -- Images one behind the other, and the modules that they hold.
-use Prim.Native.Nat.{ℕ, zero, suc, _+_, _-_, _≤_, _<_}
+use Prim.Native.Nat.{ℕ, zero, suc, _+_, _-_, _*_, _<_}
 use mathlib.Core.Path.{_≡_, refl, sym, _∙_, ap}
 use mathlib.Core.Bool.{true, false}
-use mathlib.Core.List.{List, _∷_}
+use mathlib.Core.List.{List}
 use native.Mathlib.Nat.{not-suc-le-zero}
 use native.Mathlib.Omega.{arith}
 use lib.Dec.{eqb}
-use lib.ListN.{length, take, drop, length-drop}
+use lib.ListN.{length, take, drop}
 use lib.Seq.{drop-drop}
-use borrow.Author.Tests.{le-leb, eq-eqb, eqb-true, leb-true}
+use borrow.Author.Tests.{eqb-true, eq-eqb, ne-eqb}
 use borrow.Rule.Slice.PartMut.{midOf}
-use Rattle.basis.proofs.Laid.{rest}
-use Rattle.basis.proofs.Tests.{both, same}
-use Rattle.image.specs.Image.{sizeOf, moduleOf}
-use Rattle.image.proofs.Sized.{size-fits}
-use Rattle.embed_class.specs.Row.{isRow, rowOf}
+use Rattle.basis.proofs.Tests.{both}
+use Rattle.class.proofs.Shared.{between}
+use Rattle.image.specs.Places.{LENGTH}
+use Rattle.image.specs.Image.{isImage}
+use Rattle.embed_class.specs.Row.{imageIn, areImages, isRow, rowOf}
 
--- the rest of a row, behind its first image
-pub behind : (k : ℕ) (s : List ℕ) → 0 < k → 0 < sizeOf s → isRow k s ≡ isRow (k - 1) (drop (sizeOf s) s)
+-- what a row is
+pub row-length : (k : ℕ) (s : List ℕ) → isRow k s ≡ true → length s ≡ k * LENGTH
 unfolding isRow
-behind zero s h some = absurd (not-suc-le-zero h)
-behind (suc k) s h some = let e : suc k - 1 ≡ k = omega arith in rw (le-leb 1 (sizeOf s) some, e)
+row-length k s h = eqb-true (length s) (k * LENGTH) (both (eqb (length s) (k * LENGTH)) (areImages k s) h .0)
 
--- no image where there should be one
-pub no-more : (k : ℕ) (s : List ℕ) → 0 < k → sizeOf s ≡ 0 → isRow k s ≡ false
+pub row-images : (k : ℕ) (s : List ℕ) → isRow k s ≡ true → areImages k s ≡ true
 unfolding isRow
-no-more zero s h none = absurd (not-suc-le-zero h)
-no-more (suc k) s h none = rw none
+row-images k s h = both (eqb (length s) (k * LENGTH)) (areImages k s) h .1
 
--- a row that is one goes on
-pub some-more : (k : ℕ) (s : List ℕ) → 0 < k → isRow k s ≡ true → 0 < sizeOf s
+pub no-row : (k : ℕ) (s : List ℕ) → (length s ≡ k * LENGTH → ⊥) → isRow k s ≡ false
 unfolding isRow
-some-more zero s h row = absurd (not-suc-le-zero h)
-some-more (suc k) s h row = leb-true 1 (sizeOf s) (both _ (isRow k (drop (sizeOf s) s)) row .0)
+no-row k s other = rw (ne-eqb (length s) (k * LENGTH) other)
 
--- nothing stands behind the last
-pub ended : (at : ℕ) (s : List ℕ) → at ≤ length s → eqb at (length s) ≡ isRow 0 (drop at s)
+pub row-by-images : (k : ℕ) (s : List ℕ) → length s ≡ k * LENGTH → isRow k s ≡ areImages k s
 unfolding isRow
-ended at s h =
-    rw (length-drop at s)
-    (same (eqb at (length s)) (eqb (length s - at) 0)
-    (λ p. eq-eqb (length s - at) 0 (omega (arith, eqb-true at (length s) p)))
-    (λ p. eq-eqb at (length s) (omega (arith, h, eqb-true (length s - at) 0 p))))
+row-by-images k s n = rw (eq-eqb (length s) (k * LENGTH) n)
 
-pub held-next : (k : ℕ) (s : List ℕ) → 0 < k → rowOf k s ≡ moduleOf (take (sizeOf s) s) ∷ rowOf (k - 1) (drop (sizeOf s) s)
+-- image by image
+pub images-next : (k : ℕ) (s : List ℕ) → 0 < k → isImage (take LENGTH s) ≡ true → areImages k s ≡ areImages (k - 1) (drop LENGTH s)
+unfolding areImages
+images-next zero s h one = absurd (not-suc-le-zero h)
+images-next (suc k) s h one = let e : suc k - 1 ≡ k = omega arith in rw (one, e)
+
+pub images-end : (k : ℕ) (s : List ℕ) → 0 < k → isImage (take LENGTH s) ≡ false → areImages k s ≡ false
+unfolding areImages
+images-end zero s h none = absurd (not-suc-le-zero h)
+images-end (suc k) s h none = rw none
+
+pub no-more : (k : ℕ) (s : List ℕ) → k ≡ 0 → areImages k s ≡ true
+unfolding areImages
+no-more k s e = rw e
+
+-- what is lent of the bytes for seat k is image k
+pub lent : (k : ℕ) (s : List ℕ) → midOf (k * LENGTH) (k * LENGTH + LENGTH - k * LENGTH) s ≡ imageIn k s
+lent k s = ap (λ (n : ℕ). midOf (k * LENGTH) n s) (between (k * LENGTH) LENGTH)
+
+-- and behind it the next one begins
+pub past : (k : ℕ) (s : List ℕ) → drop ((k + 1) * LENGTH) s ≡ drop LENGTH (drop (k * LENGTH) s)
+past k s =
+    let e : (k + 1) * LENGTH ≡ k * LENGTH + LENGTH = omega arith in
+    ap (λ (n : ℕ). drop n s) e ∙ sym (drop-drop LENGTH (k * LENGTH) s)
+
+-- it holds as many modules as it has images
+pub row-count : (k : ℕ) (s : List ℕ) → length (rowOf k s) ≡ k
 unfolding rowOf
-held-next zero s h = absurd (not-suc-le-zero h)
-held-next (suc k) s h = let e : suc k - 1 ≡ k = omega arith in rw e
+row-count zero s = refl
+row-count (suc k) s = ap suc (row-count k _)
 
--- from a on
-pub at-size : (a : ℕ) (s : List ℕ) (n : ℕ) → n ≡ sizeOf (midOf a (length s - a) s) → n ≡ sizeOf (drop a s)
-at-size a s n e = e ∙ ap sizeOf (rest a s)
+-- the first image is one, and behind it the others are
+pub first-image : (k : ℕ) (s : List ℕ) → areImages (suc k) s ≡ true → isImage (take LENGTH s) ≡ true
+unfolding areImages
+first-image k s h = both (isImage (take LENGTH s)) (areImages k (drop LENGTH s)) h .0
 
-pub lies : (a : ℕ) (s : List ℕ) (n : ℕ) → a ≤ length s → n ≡ sizeOf (drop a s) → a + n ≤ length s
-lies a s n h e = omega (arith, h, e, size-fits (drop a s), length-drop a s)
+pub later-images : (k : ℕ) (s : List ℕ) → areImages (suc k) s ≡ true → areImages k (drop LENGTH s) ≡ true
+unfolding areImages
+later-images k s h = both (isImage (take LENGTH s)) (areImages k (drop LENGTH s)) h .1
 
--- the part from a to a + n, where n is the size of what stands there
-pub at-part : (a n : ℕ) (s : List ℕ) → n ≡ sizeOf (drop a s) → midOf a (a + n - a) s ≡ take (sizeOf (drop a s)) (drop a s)
-at-part a n s e =
-    let span : a + n - a ≡ n = omega arith in
-    rw (span, e) refl
-
-pub at-rest : (a n : ℕ) (s : List ℕ) → n ≡ sizeOf (drop a s) → drop (sizeOf (drop a s)) (drop a s) ≡ drop (a + n) s
-at-rest a n s e = drop-drop (sizeOf (drop a s)) a s ∙ ap (λ (k : ℕ). drop (a + k) s) (sym e)
+-- image k + 1 is image k of what stands behind the first
+pub past-first : (k : ℕ) (s : List ℕ) → drop (suc k * LENGTH) s ≡ drop (k * LENGTH) (drop LENGTH s)
+past-first k s =
+    let e : suc k * LENGTH ≡ LENGTH + k * LENGTH = omega arith in
+    ap (λ (n : ℕ). drop n s) e ∙ sym (drop-drop (k * LENGTH) LENGTH s)

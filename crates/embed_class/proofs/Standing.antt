@@ -4,10 +4,11 @@ use mathlib.Core.Path.{_≡_, refl, sym, _∙_, ap, subst}
 use mathlib.Core.Bool.{Bool, true, false}
 use mathlib.Core.List.{List}
 use native.Mathlib.Omega.{arith}
-use lib.ListN.{length, drop, set, length-set}
+use lib.ListN.{length, set, length-set}
 use Rattle.basis.specs.Choice.{choose}
 use Rattle.wire.specs.declared.kind.Message.{Message}
 use Rattle.module.specs.declared.state.Module.{Module}
+use Rattle.module.specs.Module.{kindOf}
 use Rattle.device.specs.Step.{Step, stepBy}
 use Rattle.device.proofs.Lasting.{identity-by, kind-by}
 use Rattle.device.proofs.Counted.{most-read}
@@ -19,12 +20,13 @@ use Rattle.class.specs.Class.{ClassStep}
 use Rattle.row.specs.Round.{ended}
 use Rattle.class.specs.Turns.{Turn, offered, served, serveTurn, noteTurn, Ready}
 use Rattle.class.proofs.Runs.{Runs, Next, next, over}
-use Rattle.image.specs.Image.{sizeOf, heldIn, storedIfOwn}
-use Rattle.embed_class.specs.Row.{imagesOf, placeIn, imageIn, withImage}
+use Rattle.image.specs.Image.{heldIn, storedIn, storedIfOwn}
+use Rattle.image.proofs.Whole.{Own, own, stays-own, whole-module, stored-again, held-there}
+use Rattle.embed_class.specs.Row.{imageIn, withImage, storedRow}
 use Rattle.embed_class.specs.Serve.{seatStepIn, withSeat, SeatComes, RowComes}
-use Rattle.embed_class.proofs.Placed.{place-on, image-at, put-at, place-kept, kept, held-seat}
+use Rattle.embed_class.proofs.Stored.{Fit, own-at, image-at, put-at, fit-set}
 
-module _ (target : ClassStep) (heard : Message) (bytes count : ℕ) (t : Progress) where
+module _ (target : ClassStep) (heard : Message) (bytes count : ℕ) (t : Progress) (before : List ℕ) where
   -- the progress t, at another seat and with another answer
   abbrev pub at : ℕ → ClassAnswer → Progress
   at seat answer =
@@ -40,11 +42,12 @@ module _ (target : ClassStep) (heard : Message) (bytes count : ℕ) (t : Progres
         answer = answer;
       }
 
-  -- the images are those of a row from which the turns that are left lead to the target
+  -- stored in the images as they were before, a row has made them, and the turns that are left lead from it to the target
   pub record Standing (images links room : List ℕ) (seat : ℕ) (answer : ClassAnswer) : Type 0 where
     pub row : List Module
     pub many : length row ≡ count
-    pub held : images ≡ imagesOf row
+    pub fit : Fit row before
+    pub held : images ≡ storedRow row before
     pub left : ℕ
     pub runs : Runs target heard bytes left row (at seat answer) links room
     pub seats : t .seats ≡ count
@@ -52,7 +55,7 @@ module _ (target : ClassStep) (heard : Message) (bytes count : ℕ) (t : Progres
 
   -- no turn is left
   pub stands-over : (images links room : List ℕ) (seat : ℕ) (answer : ClassAnswer) → Standing images links room seat answer → count ≤ seat
-      → RowComes target answer images links room
+      → RowComes before target answer images links room
   stands-over images links room seat answer u past =
       let c = over target heard bytes (u .left) (u .row) (at seat answer) links room (u .runs) (omega (arith, u .many, past)) in
       record {
@@ -65,7 +68,7 @@ module _ (target : ClassStep) (heard : Message) (bytes count : ℕ) (t : Progres
           memory = c .memory;
           room-after = c .room-after;
         };
-        images-after = u .held ∙ ap imagesOf (c .seats);
+        images-after = u .held ∙ ap (λ (row : List Module). storedRow row before) (c .seats);
       }
 
   module _ (images links room : List ℕ) (seat : ℕ) (answer : ClassAnswer) (u : Standing images links room seat answer) (inside : seat < count) where
@@ -84,20 +87,41 @@ module _ (target : ClassStep) (heard : Message) (bytes count : ℕ) (t : Progres
     abbrev y : Step
     y = stepBy m (shareAt (t .share) seat links) heard room
 
-    -- the image holds the module of the seat
+    -- the image as it was before
+    abbrev x : List ℕ
+    x = imageIn seat before
+
+    mine : Own x m
+    mine = own-at (u .row) before seat (u .fit) there
+
+    its-image : imageIn seat images ≡ storedIn x m
+    its-image = ap (imageIn seat) (u .held) ∙ image-at (u .row) before seat (u .fit) there
+
+    -- it holds the module of the seat
     same-step : seatStepIn (t .share) seat images links heard room ≡ y
     same-step =
-        let it = ap (λ (s : List ℕ). heldIn (imageIn seat s) .«module») (u .held) ∙ held-seat (u .row) seat there in
+        let there-held = held-there (storedIn x m) (heldIn (storedIn x m)) refl (stays-own x m mine .is-one) in
+        let it = ap (λ (s : List ℕ). heldIn s .«module») its-image ∙ there-held ∙ whole-module x m mine in
         λ j. stepBy (it j) (shareAt (t .share) seat links) heard room
 
-    -- and is put back as that of the module afterwards
-    row-after : withImage seat (storedIfOwn (imageIn seat images) (seatStepIn (t .share) seat images links heard room .next)) images ≡ imagesOf (set (u .row) seat (y .next))
+    -- which stays of its kind and identity
+    lasting : y .next .identity ≡ m .identity
+    lasting = identity-by m (shareAt (t .share) seat links) heard room
+
+    of-kind : kindOf (y .next .load) ≡ kindOf (m .load)
+    of-kind = kind-by m (shareAt (t .share) seat links) heard room
+
+    next-own : Own x (y .next)
+    next-own = record { is-one = mine .is-one; who = lasting ∙ mine .who; of-kind = of-kind ∙ mine .of-kind }
+
+    -- so it is stored where it was
+    row-after : withImage seat (storedIfOwn (imageIn seat images) (seatStepIn (t .share) seat images links heard room .next)) images ≡ storedRow (set (u .row) seat (y .next)) before
     row-after =
-        let stays = kept m (y .next) (identity-by m (shareAt (t .share) seat links) heard room) (kind-by m (shareAt (t .share) seat links) heard room) in
-        (λ j. withImage seat (storedIfOwn (imageIn seat (u .held j)) (same-step j .next)) (u .held j))
-        ∙ ap (λ (s : List ℕ). withImage seat (storedIfOwn s (y .next)) (imagesOf (u .row))) (image-at (u .row) seat there)
-        ∙ ap (λ (s : List ℕ). withImage seat s (imagesOf (u .row))) stays
-        ∙ put-at (u .row) seat (y .next) there
+        let kept = stays-own x m mine in
+        let stays = own (storedIn x m) (y .next) (kept .is-one) (of-kind ∙ kept .of-kind) ∙ stored-again x m (y .next) mine next-own in
+        (λ j. withImage seat (storedIfOwn (its-image j) (same-step j .next)) (u .held j))
+        ∙ ap (λ (s : List ℕ). withImage seat s (storedRow (u .row) before)) stays
+        ∙ put-at (u .row) before seat (y .next) (u .fit) there
 
     -- its turn is to be served
     turned : Runs target heard bytes (onward .left) (set (u .row) seat (y .next)) (served (at seat answer) (y .outcome) (length (y .reply)) (y .read))
@@ -123,13 +147,6 @@ module _ (target : ClassStep) (heard : Message) (bytes count : ℕ) (t : Progres
       pub few : own .read ≤ 256
       few = subst (λ (n : ℕ). n ≤ 256) (sym (s .read)) (most-read (heldIn (imageIn seat images) .«module») (shareAt (t .share) seat links) heard room)
 
-      -- its image begins where it did, so the next one begins behind it
-      pub goes-on : (place size : ℕ) → place ≡ placeIn seat images → size ≡ sizeOf (drop place images') → place + size ≡ placeIn (seat + 1) images'
-      goes-on place size e f =
-          let stood = ap (placeIn seat) (s .image-after ∙ row-after) ∙ place-kept (u .row) seat (y .next) ∙ sym (ap (placeIn seat) (u .held)) in
-          let it = e ∙ sym stood in
-          (λ j. it j + (f ∙ ap (λ (k : ℕ). sizeOf (drop k images')) it) j) ∙ sym (place-on seat images')
-
       -- wherever the turn leads, that is where the row stands
       leads : (seat' : ℕ) (answer' : ClassAnswer) → served (at seat answer) (y .outcome) (length (y .reply)) (y .read) ≡ at seat' answer'
           → Standing images' links' room' seat' answer'
@@ -142,6 +159,7 @@ module _ (target : ClassStep) (heard : Message) (bytes count : ℕ) (t : Progres
           record {
             row = stood;
             many = length-set (u .row) seat (y .next) ∙ u .many;
+            fit = fit-set (u .row) before seat (y .next) (u .fit) next-own;
             held = s .image-after ∙ row-after;
             left = onward .left;
             runs = subst (λ (z : List ℕ). Runs target heard bytes (onward .left) stood (at seat' answer') links' z) (sym after) kept-links;

@@ -1,6 +1,7 @@
 -- Where a message to a row of images stands before the first turn.
 use Prim.Native.Nat.{ℕ, zero, suc, _<_}
 use mathlib.Core.Path.{_≡_, refl, sym, _∙_, ap, subst}
+use mathlib.Core.Bool.{true}
 use mathlib.Core.List.{List, [], _∷_}
 use native.Mathlib.Omega.{arith}
 use lib.ListN.{length, getD, take}
@@ -16,22 +17,10 @@ use Rattle.row.specs.Round.{nameIn, noticed}
 use Rattle.class.proofs.Runs.{Runs}
 use Rattle.class.proofs.Rounds.{notices}
 use Rattle.row.proofs.Noticed.{due}
-use Rattle.embed_class.specs.Row.{rowOf, imagesOf, namesOf}
-use Rattle.embed_class.proofs.Placed.{row-back}
+use Rattle.embed_class.specs.Row.{isRow, rowOf, namesOf}
+use Rattle.embed_class.proofs.Images.{row-images, row-count}
+use Rattle.embed_class.proofs.Stored.{row-fits, row-stays}
 use Rattle.embed_class.proofs.Standing.{Standing}
-
-pub row-length : (k : ℕ) (s : List ℕ) → length (rowOf k s) ≡ k
-unfolding rowOf
-row-length zero s = refl
-row-length (suc k) s = ap suc (row-length k _)
-
--- tidied images hold what they held
-pub still-held : (count : ℕ) (before images : List ℕ) → images ≡ imagesOf (rowOf count before) → rowOf count images ≡ rowOf count before
-still-held count before images e =
-    let row : List Module = rowOf count before in
-    ap (rowOf count) e
-    ∙ ap (λ (k : ℕ). rowOf k (imagesOf row)) (sym (row-length count before))
-    ∙ row-back row
 
 named-at : (row : List Module) (j : ℕ) → getD (namesOf row) j noName ≡ nameAt row j
 unfolding namesOf
@@ -47,8 +36,7 @@ agree names count row many e j inside =
     ∙ ap (λ (z : List Address). getD z j noName) e
     ∙ named-at row j
 
-module _ (names : List Address) (count : ℕ) (before images l s room : List ℕ) (tidied : images ≡ imagesOf (rowOf count before))
-    (named : take count names ≡ namesOf (rowOf count before)) where
+module _ (names : List Address) (count : ℕ) (images l s room : List ℕ) (is-row : isRow count images ≡ true) (named : take count names ≡ namesOf (rowOf count images)) where
   abbrev row : List Module
   row = rowOf count images
 
@@ -56,18 +44,19 @@ module _ (names : List Address) (count : ℕ) (before images l s room : List ℕ
   target = classOf row l s room
 
   abbrev At : Message → Progress → Type 0
-  At heard t = Standing target heard (length l) count t images l room (t .seat) (t .answer)
+  At heard t = Standing target heard (length l) count t images images l room (t .seat) (t .answer)
 
   base : At (heardIn s) (noticed names count (length l) s (heardIn s .reading))
   base =
-      let same = still-held count before images tidied in
-      let many = row-length count images in
-      let g = notices row l s room names (agree names count row many (named ∙ ap namesOf (sym same))) in
+      let all = row-images count images is-row in
+      let many = row-count count images in
+      let g = notices row l s room names (agree names count row many named) in
       let d = due names count (length l) s (heardIn s .reading) in
       record {
         row = row;
         many = many;
-        held = tidied ∙ ap imagesOf (sym same);
+        fit = row-fits count images all;
+        held = sym (row-stays count images all);
         left = g .left;
         runs = subst (λ (n : ℕ). Runs target (heardIn s) (length l) (g .left) row (noticed names n (length l) s (heardIn s .reading)) l room) many (g .runs);
         seats = d .seats;

@@ -14,7 +14,7 @@ use Rattle.row.specs.Number.{classNumberOf}
 use Rattle.class.specs.Seat.{shareAt, withShare}
 use Rattle.class.specs.Class.{ClassStep, ClassComes}
 use Rattle.image.specs.Image.{heldIn, storedIfOwn}
-use Rattle.embed_class.specs.Row.{imageIn, withImage, imagesOf}
+use Rattle.embed_class.specs.Row.{imageIn, withImage, storedRow}
 
 -- the step of seat k
 abbrev pub seatStepIn : ℕ → ℕ → List ℕ → List ℕ → Message → List ℕ → Step
@@ -36,7 +36,7 @@ joinedBy before outcome = choose (eqb (classNumberOf outcome) 0) (ClassOutcome.S
 abbrev pub withSeat : ClassAnswer → ClassAnswer → ClassAnswer
 withSeat before own = record { outcome = joinedBy (before .outcome) (own .outcome); length = 0; read = before .read + own .read }
 
--- a message to the whole row: the class's step, and the images of its row
-pub record RowComes (t : ClassStep) (r : ClassAnswer) (images links room : List ℕ) : Type 0 where
+-- a message to the whole row: the class's step, and its row stored in the images
+pub record RowComes (before : List ℕ) (t : ClassStep) (r : ClassAnswer) (images links room : List ℕ) : Type 0 where
   pub comes : ClassComes t r (t .row) links room
-  pub images-after : images ≡ imagesOf (t .row)
+  pub images-after : images ≡ storedRow (t .row) before

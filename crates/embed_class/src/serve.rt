@@ -1,9 +1,8 @@
 // A message to the row: whom it is for is decided by addresses alone, and only who is served is read out of its image.
-use crate::strip::note_row;
-use crate::strip::place_of;
+use crate::strip::names_of;
 use device::step::serve;
 use image::held::held_in;
-use image::held::size_of;
+use image::places::LENGTH;
 use image::store::store;
 use results::Outcome;
 use row::open::hear;
@@ -17,7 +16,8 @@ ghost use mathlib.Core.Bool.{true};
 ghost use Prim.Native.Nat.{_+_, _*_, _≤_};
 ghost use lib.ListN.{length};
 ghost use Rattle.class.specs.Class.{classOf};
-ghost use Rattle.embed_class.specs.Row.{isRow, rowOf, placeIn};
+ghost use Rattle.image.specs.Places.{LENGTH};
+ghost use Rattle.embed_class.specs.Row.{isRow, rowOf};
 ghost use Rattle.embed_class.specs.Serve.{joinedBy, withSeat, SeatComes, RowComes};
 
 pub(crate) fn serve_row(
@@ -30,21 +30,20 @@ pub(crate) fn serve_row(
     requires { ⌜ isRow count (now images) ≡ true ⌝ }
     requires { ⌜ count ≤ 16 ⌝ }
     ensures { λ r. ⌜
-        RowComes (classOf (rowOf count (now (images .entry))) (now (links .entry)) (now (message .entry)) (now (room .entry)))
+        RowComes (now (images .entry))
+        (classOf (rowOf count (now (images .entry))) (now (links .entry)) (now (message .entry)) (now (room .entry)))
         r (now (images .exit)) (now (links .exit)) (now (room .exit))
         ⌝ }
 {
-    let names = note_row(images, count);
+    let names = names_of(images, count);
     let heard = hear(message);
     let t = noticed(names, count, links.len(), message, heard);
     let mut answer = t.answer;
     let mut seat = t.seat;
-    let mut at = place_of(images, seat); // goes along with the seat, so that a broadcast passes each image once
     while seat < count {
-        let own = serve_seat(images, at, seat, t.share, links, heard, room);
+        let own = serve_seat(images, seat, t.share, links, heard, room);
         if t.all {
             answer = with_seat(answer, own);
-            at += size_of(&images[at..]);
             seat += 1;
         } else {
             answer = own;
@@ -77,24 +76,24 @@ fn joined(so_far: ClassOutcome, outcome: ClassOutcome) -> ClassOutcome
     so_far
 }
 
-// One seat, whose image begins at `at`, with its own share.
+// One seat, with its own image and its own share.
 fn serve_seat(
     images: &mut [u8],
-    at: usize,
     seat: usize,
     share: usize,
     links: &mut [u8],
     heard: Message,
     room: &mut [u8],
 ) -> ClassAnswer
-    requires { ⌜ at ≡ placeIn seat (now images) ⌝ }
+    requires { ⌜ seat * LENGTH + LENGTH ≤ length (now images) ⌝ }
     requires { ⌜ seat * share + share ≤ length (now links) ⌝ }
     ensures { λ r. ⌜
         SeatComes share seat (now (images .entry)) (now (links .entry)) heard (now (room .entry))
         r (now (images .exit)) (now (links .exit)) (now (room .exit))
         ⌝ }
 {
-    let end = at + size_of(&images[at..]);
+    let at = seat * LENGTH;
+    let end = at + LENGTH;
     let held = held_in(&images[at..end]);
     let m = held.module;
     let from = seat * share;

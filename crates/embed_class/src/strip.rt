@@ -1,36 +1,43 @@
 // A row of modules held as bytes: their images, each directly behind the one before it.
-use image::held::size_of;
-use image::store::tidy;
+use image::held::is_image;
+use image::places::HIGH;
+use image::places::LENGTH;
+use image::places::LOW;
+use image::places::MIDDLE;
 use wire::address::Address;
 ghost use mathlib.Core.Path.{_≡_};
-ghost use mathlib.Core.Bool.{true};
-ghost use Prim.Native.Nat.{_≤_};
-ghost use lib.ListN.{take};
-ghost use Rattle.embed_class.specs.Row.{isRow, rowOf, imagesOf, namesOf, placeIn};
+ghost use Prim.Native.Nat.{_*_, _≤_};
+ghost use lib.ListN.{length, take};
+ghost use Rattle.image.specs.Places.{LENGTH};
+ghost use Rattle.embed_class.specs.Row.{isRow, rowOf, namesOf};
 
 // Whether these bytes are so many images, and nothing else.
 pub(crate) fn is_row(images: &[u8], count: usize) -> bool
     ensures { λ r. ⌜ r ≡ isRow count (now (images .entry)) ⌝ }
 {
-    let mut at: usize = 0;
-    let mut left = count;
-    while left > 0 {
-        let n = size_of(&images[at..]);
-        if n == 0 {
+    if images.len() % LENGTH != 0 {
+        return false;
+    }
+    if images.len() / LENGTH != count {
+        return false;
+    }
+    let mut i: usize = 0;
+    while i < count {
+        let at = i * LENGTH;
+        let end = at + LENGTH;
+        if !is_image(&images[at..end]) {
             return false;
         }
-        at += n;
-        left -= 1;
+        i += 1;
     }
-    at == images.len()
+    true
 }
 
-// The addresses of the modules, in the first places; each image becomes that of the module it holds.
-pub(crate) fn note_row(images: &mut [u8], count: usize) -> [Address; 16]
-    requires { ⌜ isRow count (now images) ≡ true ⌝ }
+// The addresses of the modules, in the first places.
+pub(crate) fn names_of(images: &[u8], count: usize) -> [Address; 16]
+    requires { ⌜ length (now images) ≡ count * LENGTH ⌝ }
     requires { ⌜ count ≤ 16 ⌝ }
     ensures { λ r. ⌜ take count r ≡ namesOf (rowOf count (now (images .entry))) ⌝ }
-    ensures { λ _. ⌜ now (images .exit) ≡ imagesOf (rowOf count (now (images .entry))) ⌝ }
 {
     let blank = Address {
         high: 0,
@@ -38,32 +45,16 @@ pub(crate) fn note_row(images: &mut [u8], count: usize) -> [Address; 16]
         low: 0,
     };
     let mut names = [blank; 16];
-    let mut at: usize = 0;
     let mut i: usize = 0;
     while i < count {
-        let end = at + size_of(&images[at..]);
+        let at = i * LENGTH;
         let a = Address {
-            high: images[at + 1],
-            middle: images[at + 2],
-            low: images[at + 3],
+            high: images[at + HIGH],
+            middle: images[at + MIDDLE],
+            low: images[at + LOW],
         };
         names[i] = a;
-        tidy(&mut images[at..end]);
-        at = end;
         i += 1;
     }
     names
-}
-
-// Where an image begins; behind the last one where there are not so many.
-pub(crate) fn place_of(images: &[u8], k: usize) -> usize
-    ensures { λ r. ⌜ r ≡ placeIn k (now (images .entry)) ⌝ }
-{
-    let mut at: usize = 0;
-    let mut left = k;
-    while left > 0 {
-        at += size_of(&images[at..]);
-        left -= 1;
-    }
-    at
 }

@@ -1,3 +1,3 @@
 -- Laws of images.
+pub mod Values
 pub mod Whole
-pub mod Sized

@@ -1,4 +1,5 @@
 // The module that an image holds.
+use crate::places;
 use load::state::Lamp;
 use load::state::Load;
 use load::state::Sockets;
@@ -6,10 +7,11 @@ use module::state::Identity;
 use module::state::Module;
 use wire::address::Address;
 ghost use mathlib.Core.Path.{_≡_};
-ghost use mathlib.Core.Bool.{true};
-ghost use Prim.Native.Nat.{_≤_};
-ghost use lib.ListN.{length};
-ghost use Rattle.image.specs.Image.{lengthOf, sizeOf, isImage, loadOf, moduleOf, nobody, heldIn};
+ghost use mathlib.Core.Bool.{false};
+ghost use lib.ListN.{length, getD};
+ghost use Rattle.basis.specs.Table.{among};
+ghost use Rattle.image.specs.Places.{LENGTH, KIND};
+ghost use Rattle.image.specs.Image.{kinds, isImage, loadOf, moduleOf, nobody, heldIn};
 
 // Whether it is an image, and the module that it holds; where it is none, nobody.
 pub struct Held {
@@ -34,20 +36,6 @@ pub fn held_in(image: &[u8]) -> Held
     }
 }
 
-// The bytes of the image that stands first; 0 where none does.
-pub fn size_of(images: &[u8]) -> usize
-    ensures { λ r. ⌜ r ≡ sizeOf (now (images .entry)) ⌝ }
-{
-    if images.len() == 0 {
-        return 0;
-    }
-    let n = length_of(images[0]);
-    if images.len() < n {
-        return 0;
-    }
-    n
-}
-
 fn nobody() -> Module
     ensures { λ r. ⌜ r ≡ nobody ⌝ }
 {
@@ -64,75 +52,76 @@ fn nobody() -> Module
     })
 }
 
-// Whether there is such a kind, and the image has its length.
-pub(crate) fn is_image(image: &[u8]) -> bool
+// Whether it has the length of images, is of a kind that there is, and can be that kind's.
+pub fn is_image(image: &[u8]) -> bool
     ensures { λ r. ⌜ r ≡ isImage (now (image .entry)) ⌝ }
 {
-    let length = image.len();
-    if length == 0 {
+    if image.len() != places::LENGTH {
         return false;
     }
-    length == length_of(image[0])
+    is_kind(image)
 }
 
-// No image is as short as that of a kind that there is not.
-fn length_of(kind: u8) -> usize
-    ensures { λ r. ⌜ r ≡ lengthOf kind ⌝ }
+// Any byte can be a dimmer's; a socket is 00 or 01.
+fn is_kind(image: &[u8]) -> bool
+    requires { ⌜ length (now image) ≡ LENGTH ⌝ }
+    ensures { λ r. ⌜ r ≡ among (getD (now (image .entry)) KIND 0) false (kinds (now (image .entry))) ⌝ }
 {
+    let kind = image[places::KIND];
     match kind {
-        0x01 => 16,
-        0x02 => 15,
-        _ => 0,
+        places::DIMMER => true,
+        places::OUTLET => (image[places::TOP] <= 0x01) & (image[places::BOTTOM] <= 0x01),
+        _ => false,
     }
 }
 
 fn module_of(image: &[u8]) -> Module
-    requires { ⌜ isImage (now image) ≡ true ⌝ }
+    requires { ⌜ length (now image) ≡ LENGTH ⌝ }
     ensures { λ r. ⌜ r ≡ moduleOf (now (image .entry)) ⌝ }
 {
     Module {
         identity: identity_of(image),
-        flags: image[8],
-        led: image[9],
-        house: image[10],
-        unit: image[11],
-        delta: image[12],
+        flags: image[places::FLAGS],
+        led: image[places::LED],
+        house: image[places::HOUSE],
+        unit: image[places::UNIT],
+        delta: image[places::DELTA],
         load: load_of(image),
     }
 }
 
 fn identity_of(image: &[u8]) -> Identity
-    requires { ⌜ 15 ≤ length (now image) ⌝ }
+    requires { ⌜ length (now image) ≡ LENGTH ⌝ }
     ensures { λ r. ⌜ r ≡ moduleOf (now (image .entry)) .identity ⌝ }
 {
     Identity {
         address: Address {
-            high: image[1],
-            middle: image[2],
-            low: image[3],
+            high: image[places::HIGH],
+            middle: image[places::MIDDLE],
+            low: image[places::LOW],
         },
-        category: image[4],
-        subcategory: image[5],
-        firmware: image[6],
-        revision: image[7],
+        category: image[places::CATEGORY],
+        subcategory: image[places::SUBCATEGORY],
+        firmware: image[places::FIRMWARE],
+        revision: image[places::REVISION],
     }
 }
 
 // What is no outlet is a dimmer, as an image is of one of the two.
 fn load_of(image: &[u8]) -> Load
-    requires { ⌜ isImage (now image) ≡ true ⌝ }
+    requires { ⌜ length (now image) ≡ LENGTH ⌝ }
     ensures { λ r. ⌜ r ≡ loadOf (now (image .entry)) ⌝ }
 {
-    let kind = image[0];
+    let kind = image[places::KIND];
     match kind {
-        0x02 => Load::Outlet(Sockets {
-            top: image[13] != 0x00,
-            bottom: image[14] != 0x00,
+        places::OUTLET => Load::Outlet(Sockets {
+            top: image[places::TOP] == 0x01,
+            bottom: image[places::BOTTOM] == 0x01,
         }),
         _ => Load::Dimmer(Lamp {
-            level: image[13],
-            ramp: image[14],
-            on_level: image[15],
+            level: image[places::LEVEL],
+            ramp: image[places::RAMP],
+            on_level: image[places::ON_LEVEL],
         }),
     }
 }

@@ -5,10 +5,10 @@ use Rattle.captures.proofs.values.place_in.Statement.{statement}
 use Rattle.captures.proofs.values.place_in.Tie as tie
 
 abbrev Inv-loop : tie.InvT-loop
-Inv-loop names name place₀ at₀ place at = (place ≤ at) × (at ≤ length names)
+Inv-loop names spots name n₀ at₀ n at = (n ≤ at) × (at ≤ length names)
 
 abbrev μ-loop : tie.MeasureT-loop
-μ-loop names name place₀ at₀ place at = length names - at
+μ-loop names spots name n₀ at₀ n at = length names - at
 
 pub place-in-spec : {M : Type 1} → statement M
 place-in-spec =
@@ -26,5 +26,5 @@ place-in-spec =
     (λ c. omega arith)
     (λ c. omega arith)
     (λ c. omega arith)
-    (λ c. tt)
+    (λ c κs. tt)
     (λ c. tt))

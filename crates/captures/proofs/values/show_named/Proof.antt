@@ -5,10 +5,10 @@ use Rattle.captures.proofs.values.show_named.Statement.{statement}
 use Rattle.captures.proofs.values.show_named.Tie as tie
 
 abbrev Inv-loop : tie.InvT-loop
-Inv-loop names before came place₀ at₀ place at = (place ≤ at) × (at ≤ length names)
+Inv-loop names spots before came n₀ at₀ n at = (n ≤ at) × (at ≤ length names)
 
 abbrev μ-loop : tie.MeasureT-loop
-μ-loop names before came place₀ at₀ place at = length names - at
+μ-loop names spots before came n₀ at₀ n at = length names - at
 
 pub show-named-spec : {M : Type 1} → statement M
 show-named-spec =
@@ -22,6 +22,7 @@ show-named-spec =
     (λ c. omega arith)
     (λ c. omega arith)
     (λ c. omega arith)
+    (λ c κs. tt)
     (λ c κs. tt)
     (λ c. omega arith)
     (λ c. omega arith)

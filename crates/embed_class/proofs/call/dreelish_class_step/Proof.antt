@@ -46,7 +46,7 @@ returns-4 c =
     let few = called .before .before .before .before in
     let g = start (few .before .before .before) .args in
     served (g .images .now) (g .count) (g .links .now) (g .message .now) (g .room .now) (g .report .now) (is-one (few .before .before)) (few .before .if2 .left)
-    (few .if3 .left) (called .serve-row .result) _ _ _ _ _ (called .serve-row .ensures) (c .before .before .before .tell2 .ensures) (c .class-number2 .ensures)
+    (called .serve-row .result) _ _ _ _ _ (called .serve-row .ensures) (c .before .before .before .tell2 .ensures) (c .class-number2 .ensures)
 
 pub dreelish-class-step-spec : {M : Type 1} → statement M
 dreelish-class-step-spec =

@@ -4,6 +4,7 @@ use borrow.Author.Needs.{needs}
 use borrow.Author.Tests.{not-true, not-false}
 use Rattle.basis.specs.Choice.{choose}
 use Rattle.image.specs.Image.{isImage, heldIn}
+use Rattle.image.proofs.Whole.{long}
 use Rattle.image.proofs.held.held_in.Statement.{statement}
 use Rattle.image.proofs.held.held_in.Tie as tie
 
@@ -22,4 +23,4 @@ unfolding heldIn choose
 returns-2 c = rw (c .module-of .ensures, is-one (c .before))
 
 pub held-in-spec : {M : Type 1} → statement M
-held-in-spec = tie.close (tie.spec (λ c κs. search needs) (λ c κs. search needs) returns (λ c κs. is-one c) returns-2)
+held-in-spec = tie.close (tie.spec (λ c κs. search needs) (λ c κs. search needs) returns (λ c κs. long _ (is-one c)) returns-2)

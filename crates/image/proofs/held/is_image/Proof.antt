@@ -1,7 +1,6 @@
-use native.Mathlib.Omega.{arith}
-use lib.ListN.{length}
 use borrow.Author.Needs.{needs}
-use borrow.Author.Tests.{le-leb}
+use borrow.Author.Tests.{eq-eqb, ne-eqb}
+use Rattle.image.specs.Places.{LENGTH}
 use Rattle.image.specs.Image.{isImage}
 use Rattle.image.proofs.held.is_image.Statement.{statement}
 use Rattle.image.proofs.held.is_image.Tie as tie
@@ -11,9 +10,6 @@ unfolding isImage
 is-image-spec =
     tie.close
     (tie.spec
-    (λ c. rw (c .if1 .taken))
-    (λ c. search needs)
-    (λ c. search needs)
-    (λ c.
-    let asked = c .before .before in
-    rw (c .length-of .ensures, le-leb 1 (length (asked .before .before .args .image .now)) (omega (arith, asked .if1 .left)))))
+    (λ c. rw (ne-eqb _ LENGTH (c .if1 .taken)))
+    (λ c κs. search needs)
+    (λ c. rw (eq-eqb _ LENGTH (c .before .if1 .left)) (c .is-kind .ensures)))

@@ -1,8 +1,7 @@
-use native.Mathlib.Omega.{arith}
+use borrow.Author.Needs.{needs}
 use borrow.Author.Tests.{ne-eqb}
 use Rattle.basis.specs.Choice.{choose}
 use Rattle.image.specs.Image.{loadOf}
-use Rattle.image.proofs.Whole.{long, longer}
 use Rattle.image.proofs.held.load_of.Statement.{statement}
 use Rattle.image.proofs.held.load_of.Tie as tie
 
@@ -11,11 +10,11 @@ unfolding loadOf choose
 load-of-spec =
     tie.close
     (tie.spec
-    (λ c. omega (arith, long _ (c .before .pre)))
-    (λ c. omega (arith, long _ (c .before .before .before .pre)))
-    (λ c. omega (arith, long _ (c .before .before .before .before .pre)))
-    (λ c. omega (arith, long _ (c .before .before .before .pre)))
-    (λ c. omega (arith, long _ (c .before .before .before .before .pre)))
-    (λ c. omega (arith, longer _ (c .before .before .before .before .before .pre) (c .before .before .before .match .rest .1)))
+    (λ c. search needs)
+    (λ c. search needs)
+    (λ c. search needs)
+    (λ c. search needs)
+    (λ c. search needs)
+    (λ c. search needs)
     (λ c. rw (c .before .before .match .keys1))
     (λ c. rw (ne-eqb _ _ (c .before .before .before .match .rest .1))))

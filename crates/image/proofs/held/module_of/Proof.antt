@@ -1,5 +1,4 @@
-use native.Mathlib.Omega.{arith}
-use Rattle.image.proofs.Whole.{long}
+use borrow.Author.Needs.{needs}
 use Rattle.image.proofs.held.module_of.Statement.{statement}
 use Rattle.image.proofs.held.module_of.Tie as tie
 
@@ -7,11 +6,11 @@ pub module-of-spec : {M : Type 1} → statement M
 module-of-spec =
     tie.close
     (tie.spec
-    (λ c κs. long _ (c .before .pre))
-    (λ c. omega (arith, long _ (c .before .before .before .pre)))
-    (λ c. omega (arith, long _ (c .before .before .before .before .pre)))
-    (λ c. omega (arith, long _ (c .before .before .before .before .before .pre)))
-    (λ c. omega (arith, long _ (c .before .before .before .before .before .before .pre)))
-    (λ c. omega (arith, long _ (c .before .before .before .before .before .before .before .pre)))
-    (λ c κs. c .before .before .before .before .before .before .before .pre)
+    (λ c κs. search needs)
+    (λ c. search needs)
+    (λ c. search needs)
+    (λ c. search needs)
+    (λ c. search needs)
+    (λ c. search needs)
+    (λ c κs. search needs)
     (λ c. rw (c .load-of .ensures, c .before .before .before .before .before .before .identity-of .ensures)))

@@ -6,8 +6,9 @@ use borrow.Author.Needs.{needs}
 use borrow.Author.Tests.{not-true, not-false, ne-eqb}
 use Rattle.basis.specs.Choice.{choose}
 use Rattle.module.specs.Module.{kindOf}
+use Rattle.image.specs.Places.{KIND}
 use Rattle.image.specs.Image.{isImage, storedIfOwn}
-use Rattle.image.proofs.Whole.{long, has-place, own}
+use Rattle.image.proofs.Whole.{long, own}
 use Rattle.image.proofs.store.store.Statement.{statement}
 use Rattle.image.proofs.store.store.Tie as tie
 
@@ -24,17 +25,15 @@ unfolding storedIfOwn choose
 returns-2 c =
     let told = c .before .before in
     let g = told .before .before .before .before .before .args in
-    let other : kindOf (g .m .load) ≡ getD (g .image .now) 0 0 → ⊥ = λ e. c .if2 .taken (told .kind-of .ensures ∙ e) in
-    rw (is-one (told .before), ne-eqb (kindOf (g .m .load)) (getD (g .image .now) 0 0) other)
+    let other : kindOf (g .m .load) ≡ getD (g .image .now) KIND 0 → ⊥ = λ e. c .if2 .taken (told .kind-of .ensures ∙ e) in
+    rw (is-one (told .before), ne-eqb (kindOf (g .m .load)) (getD (g .image .now) KIND 0) other)
 
 -- behind the second it is of the module's kind
-of-kind : (c : tie.Else2) → kindOf (c .before .before .before .before .before .before .before .args .m .load) ≡ getD (c .before .before .before .before .before .before .before .args .image .now) 0 0
+of-kind : (c : tie.Else2) → kindOf (c .before .before .before .before .before .before .before .args .m .load) ≡ getD (c .before .before .before .before .before .before .before .args .image .now) KIND 0
 of-kind c = sym (c .before .before .kind-of .ensures) ∙ c .if2 .left
 
 store-values-requires : tie.Need-store-values-requires
-store-values-requires c κs =
-    let g = c .before .before .before .before .before .before .before .before .args in
-    has-place (g .image .now) (is-one (c .before .before .before .before)) (g .m .load) (of-kind (c .before))
+store-values-requires c κs = long _ (is-one (c .before .before .before .before))
 
 returns-3 : tie.Need-returns-3
 returns-3 c =

@@ -7,9 +7,9 @@ store-load-spec =
     tie.close
     (tie.spec
     (λ c. search needs)
-    (λ c κs. rw (c .before .before .load .given .1) at (c .before .before .before .before .before .pre))
+    (λ c κs. search needs)
     (λ c. search needs)
-    (λ c κs. rw (c .before .before .load2 .given .1) at (c .before .before .before .before .before .pre))
+    (λ c κs. search needs)
     (λ c. search needs)
     (λ c. rw (c .before .before .before .before .before .load .given .1) (c .before .before .store-lamp .ensures))
     (λ c. search needs)

@@ -1,4 +1,6 @@
 -- Laws of link memory.
+pub mod Standing
+pub mod Alike
 pub mod Taken
 pub mod Stop
 pub mod Settled

@@ -1,11 +1,12 @@
--- Records that are alike place by place link the same senders.
-use Prim.Native.Nat.{ℕ, _<_}
-use mathlib.Core.Path.{_≡_, sym, _∙_, ap}
+-- Records that are alike place by place link the same senders, and have one list of live records.
+use Prim.Native.Nat.{ℕ, zero, suc, _+_, _≤_, _<_}
+use mathlib.Core.Path.{_≡_, refl, sym, _∙_, ap}
 use mathlib.Core.List.{List}
 use native.Mathlib.Omega.{arith}
 use Rattle.wire.specs.declared.address.Address.{Address}
 use Rattle.links.specs.Record.{isInUse, isEndMark, bears}
 use Rattle.links.specs.Live.{LiveOf, LinkedOf}
+use Rattle.links.specs.LiveList.{liveFrom}
 
 module _ (n : ℕ) (at to : ℕ → List ℕ) where
   pub live-alike : ((j : ℕ) → j < n → at j ≡ to j) → (k : ℕ) → LiveOf n at k → LiveOf n to k
@@ -24,3 +25,9 @@ module _ (n : ℕ) (at to : ℕ → List ℕ) where
         live = live-alike same (h .place) (h .live);
         its = ap (λ (r : List ℕ). bears r a) (sym (same (h .place) (h .live .inside))) ∙ h .its;
       }
+
+  -- of any m places from k on
+  pub list-alike : ((j : ℕ) → j < n → at j ≡ to j) → (m k : ℕ) → k + m ≤ n → liveFrom at m k ≡ liveFrom to m k
+  unfolding liveFrom
+  list-alike same zero k h = refl
+  list-alike same (suc m) k h = rw (same k (omega arith), list-alike same m (k + 1) (omega arith))

@@ -5,6 +5,8 @@ pub mod Taken
 pub mod Stop
 pub mod Settled
 pub mod Linked
+pub mod Listed
+pub mod Foremost
 pub mod Named
 pub mod Written
 pub mod Following

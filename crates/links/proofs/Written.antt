@@ -19,9 +19,10 @@ use Rattle.basis.proofs.Over.{length-over, before, inside, behind}
 use Rattle.wire.specs.declared.address.Address.{Address}
 use Rattle.links.specs.Record.{records, startOf, recordAt}
 use Rattle.links.specs.Live.{LinkedOf, Linked}
+use Rattle.links.specs.LiveList.{liveList, liveListOf}
 use Rattle.links.specs.Write.{written, writtenIfThere, afterWrite}
 use Rattle.links.proofs.Standing.{stands, apart, as-long}
-use Rattle.links.proofs.Alike.{linked-alike}
+use Rattle.links.proofs.Alike.{linked-alike, list-alike}
 
 -- a write of more than eight bytes is none, and one of fewer to a record that is there is as it says
 pub too-many : (l : List ℕ) (k : ℕ) (bytes : List ℕ) → 8 < length bytes → writtenIfThere l k bytes ≡ l
@@ -87,7 +88,7 @@ module _ (l : List ℕ) (k : ℕ) (bytes : List ℕ) (few : length bytes ≤ 8) 
       alike 8 (startOf (written l k bytes) k) 0 (written l k bytes) after (λ j h. stood k j ∙ here j h ∙ ap (λ (x : ℕ). getD after x 0) (sym (zero-add j)))
       ∙ spelled 8 after long
 
-  -- so every record is known after the write, and with the records who is linked
+  -- so every record is known after the write, and with the records who is linked and which are live
   pub after-write : (j : ℕ) → j < records l → recordAt (written l k bytes) j ≡ afterWrite l k bytes j
   unfolding afterWrite choose
   after-write j h = go (eqb j k) refl
@@ -100,6 +101,9 @@ module _ (l : List ℕ) (k : ℕ) (bytes : List ℕ) (few : length bytes ≤ 8) 
   linked-after a =
       let e : Linked (written l k bytes) a ≡ LinkedOf (records l) (recordAt (written l k bytes)) a = rw length-written in
       (λ h. linked-alike (records l) _ _ a after-write (transport e h), λ h. transport (sym e) (linked-alike (records l) _ _ a (λ j g. sym (after-write j g)) h))
+
+  pub live-after : liveList (written l k bytes) ≡ liveListOf (records l) (afterWrite l k bytes)
+  live-after = rw length-written (list-alike (records l) _ _ after-write (records l) 0 (omega arith))
 
 -- a write, made or not, keeps the length, and so every record stands where it stood
 pub length-kept : (l : List ℕ) (k : ℕ) (bytes : List ℕ) → length (writtenIfThere l k bytes) ≡ length l

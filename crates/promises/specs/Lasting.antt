@@ -8,6 +8,7 @@ use Rattle.basis.specs.Laid.{laid}
 use Rattle.wire.specs.declared.address.Address.{Address}
 use Rattle.links.specs.Record.{records, startOf, recordAt}
 use Rattle.links.specs.Live.{LinkedOf, Linked}
+use Rattle.links.specs.LiveList.{liveListOf, liveList}
 use Rattle.links.specs.Write.{written, afterWrite}
 use Rattle.module.specs.declared.state.Module.{Module}
 use Rattle.module.specs.Module.{kindOf}
@@ -31,8 +32,9 @@ pub record WriteLeaves (l : List ℕ) (k : ℕ) (bytes : List ℕ) : Type 0 wher
   pub others-stay : (i : ℕ) → i < records l → ¬ (i ≡ k) → recordAt (written l k bytes) i ≡ recordAt l i
   -- and so does the rest of this one
   pub rest-stays : recordAt (written l k bytes) k ≡ laid bytes (recordAt l k)
-  -- who is linked then goes by the records as they are then
+  -- who is linked then, and which records are live, goes by the records as they are then
   pub linked-then : (a : Address) → Linked (written l k bytes) a ↔ LinkedOf (records l) (afterWrite l k bytes) a
+  pub live-then : liveList (written l k bytes) ≡ liveListOf (records l) (afterWrite l k bytes)
 
 abbrev pub WritesLeave : Type 0
 WritesLeave = (l : List ℕ) (k : ℕ) (bytes : List ℕ) → length bytes ≤ 8 → k < records l → WriteLeaves l k bytes

@@ -1,10 +1,10 @@
 -- A search finds the first live record that is looked for, and nothing else of link memory matters to it.
-use Prim.Native.Nat.{ℕ, zero, suc, _+_, _<_}
+use Prim.Native.Nat.{ℕ, zero, suc, _+_}
 use mathlib.Core.Path.{_≡_, refl, sym, _∙_, ap, subst}
 use mathlib.Core.Bool.{Bool, true, false}
 use mathlib.Core.List.{List, [], _∷_}
 use native.Mathlib.Omega.{arith}
-use lib.ListN.{length, getD}
+use lib.ListN.{getD}
 use Rattle.basis.specs.Choice.{choose}
 use Rattle.basis.specs.First.{firstFrom}
 use Rattle.basis.proofs.First.{none, here, later}
@@ -14,7 +14,7 @@ use Rattle.links.specs.declared.search.Wanted.{Wanted}
 use Rattle.links.specs.declared.search.Found.{Found}
 use Rattle.links.specs.Record.{records, recordAt, linkOf, isInUse, isEndMark}
 use Rattle.links.specs.Search.{answers, settlesAt, stopOf, stoppedAt, isSought, searchOf, ifFound, isFound}
-use Rattle.links.specs.LiveList.{liveFrom, liveList, FirstWanted, NoneWanted, FindsFirst, SearchesFindFirst, SameFound, in-both, in-neither, FoundByList}
+use Rattle.links.specs.LiveList.{liveFrom, liveList, FirstWanted, NoneWanted, SearchesFindFirst, SameFound, in-both, in-neither, FoundByList}
 use Rattle.links.proofs.Stop.{at-memory-end, at-end-mark, at-match}
 
 -- what follows from the first record of a list that is looked for, or from none

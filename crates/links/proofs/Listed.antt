@@ -3,16 +3,15 @@ use Prim.Native.Nat.{ℕ, zero, suc, _+_, _≤_, _<_}
 use mathlib.Core.Path.{_≡_, refl, sym, _∙_, ap}
 use mathlib.Core.Bool.{Bool, true, false}
 use mathlib.Core.List.{List, [], _∷_, map}
-use mathlib.Core.Logic.{_⊎_, inl, inr, _↔_}
+use mathlib.Core.Logic.{_⊎_, inl, inr}
 use native.Mathlib.Omega.{arith}
 use lib.Dec.{eqb}
 use lib.ListN.{length, getD, length-map}
 use borrow.Author.Tests.{eqb-true, eqb-false}
 use Rattle.basis.specs.Choice.{choose}
 use Rattle.basis.proofs.Tests.{clash}
-use Rattle.wire.specs.declared.address.Address.{Address}
 use Rattle.links.specs.Record.{records, recordAt, isInUse, isEndMark, bears}
-use Rattle.links.specs.Live.{LiveOf, Live, Linked}
+use Rattle.links.specs.Live.{Live, Linked}
 use Rattle.links.specs.LiveList.{liveFrom, liveList, Among, InOrder, ListsLive, SomeBears, LinkedByList}
 
 -- one more place in front

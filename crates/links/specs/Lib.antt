@@ -5,4 +5,5 @@ pub mod Name
 pub mod Search
 pub mod Settled
 pub mod LiveList
+pub mod Mark
 pub mod Write

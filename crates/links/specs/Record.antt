@@ -1,5 +1,5 @@
 -- Records of link memory, and their bits ("Link memory").
-use Prim.Native.Nat.{ℕ, _+_, _*_, _/_, _%_}
+use Prim.Native.Nat.{ℕ, _*_, _/_, _%_}
 use mathlib.Core.Bool.{Bool, _&&_, not}
 use mathlib.Core.List.{List}
 use lib.Dec.{eqb, ltb}

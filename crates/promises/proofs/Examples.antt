@@ -9,8 +9,9 @@ use Rattle.wire.specs.Reading.{readOf}
 use Rattle.links.specs.Name.{meant, placeOf}
 use Rattle.links.specs.Record.{startOf}
 use Rattle.links.specs.Search.{stopOf}
+use Rattle.links.specs.Mark.{upToMark}
 use Rattle.links.specs.Write.{writtenIfThere}
-use Rattle.reply.specs.Records.{recordsFrom, upToMark}
+use Rattle.reply.specs.Records.{recordsFrom}
 use Rattle.module.specs.Deed.{limited}
 use Rattle.shared.specs.Standard.{flagsTold}
 use Rattle.shared.specs.Extended.{propertyDeed, propertiesDeed, recordDeed, databaseDeed}

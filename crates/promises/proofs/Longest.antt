@@ -10,7 +10,8 @@ use Rattle.wire.specs.Reading.{readOf}
 use Rattle.links.specs.Name.{meant, placeOf}
 use Rattle.links.specs.Record.{startOf}
 use Rattle.links.specs.Search.{stopOf}
-use Rattle.reply.specs.Records.{recordsFrom, upToMark}
+use Rattle.links.specs.Mark.{upToMark}
+use Rattle.reply.specs.Records.{recordsFrom}
 use Rattle.shared.specs.Extended.{recordDeed, databaseDeed}
 use Rattle.decide.specs.Decide.{directPlan}
 use Rattle.decide.specs.Ruling.{rulingBy}

@@ -1,7 +1,7 @@
 // The records that Get Database sends ("Direct commands, extended").
 use crate::due::DataBytes;
 use crate::message::put_extended;
-use links::memory::is_end_mark;
+use links::mark::up_to_mark;
 use links::memory::record_or_blank;
 use links::memory::records;
 use links::name::name_of;
@@ -11,7 +11,7 @@ ghost use Prim.Native.Nat.{_-_, _*_, _≤_, _<_};
 ghost use lib.ListN.{length};
 ghost use Rattle.basis.specs.Laid.{laidIfFits};
 ghost use Rattle.links.specs.Record.{records};
-ghost use Rattle.reply.specs.Records.{limit, upToMark, countSent, recordMessage, recordsFrom};
+ghost use Rattle.reply.specs.Records.{limit, countSent, recordMessage, recordsFrom};
 
 // How many records are sent from record `k` on, where `count` are asked for.
 pub(crate) fn count_sent(links: &[u8], k: usize, count: usize) -> usize
@@ -33,24 +33,6 @@ fn limit(links: &[u8], k: usize, count: usize) -> usize
         return left;
     }
     if count < left { count } else { left }
-}
-
-// Of `n` records those before the first end mark, and the end mark.
-fn up_to_mark(links: &[u8], k: usize, n: usize) -> usize
-    requires { ⌜ n ≤ records (now links) - k ⌝ }
-    ensures { λ r. ⌜ r ≡ upToMark (now (links .entry)) n k ⌝ }
-{
-    let mut i: usize = 0;
-    loop {
-        if i == n {
-            break i;
-        }
-        let record = record_or_blank(links, k + i);
-        i += 1;
-        if is_end_mark(record) {
-            break i;
-        }
-    }
 }
 
 // One record in the remaining part of the room.

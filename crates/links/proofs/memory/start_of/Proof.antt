@@ -1,5 +1,3 @@
-use mathlib.Core.Path.{refl}
-use native.Mathlib.Omega.{arith}
 use borrow.Author.Needs.{needs}
 use Rattle.links.specs.Record.{startOf}
 use Rattle.links.proofs.memory.start_of.Statement.{statement}

@@ -5,6 +5,7 @@ use Rattle.basis.specs.First.{firstFrom}
 use Rattle.wire.specs.Commands.{standards, extendeds, groupCommandOf}
 use Rattle.wire.specs.Kinds.{kindOf}
 use Rattle.wire.specs.Reading.{readOf}
+use Rattle.links.specs.Record.{startOf}
 use Rattle.links.specs.Search.{stopOf}
 use Rattle.module.specs.Deed.{groupedBy}
 use Rattle.dimmer.specs.Load.{loadEntry}
@@ -17,6 +18,6 @@ use Rattle.promises.specs.Outlets.{group-1, record-of}
 use Rattle.apart.specs.Examples.{dimmer, outlet, lit, top-on, seats, shares, pair, twins, seat, to-seat, of-seat, called, examples, cramped, AllRight}
 
 pub all-right : AllRight
-unfolding choose firstFrom standards extendeds groupCommandOf kindOf readOf stopOf loadEntry groupedBy socketGroup directPlan rulingBy heardFrom classOf linked stranger
+unfolding choose firstFrom standards extendeds groupCommandOf kindOf readOf startOf stopOf loadEntry groupedBy socketGroup directPlan rulingBy heardFrom classOf linked stranger
     zeros first-record memory room group-1 record-of dimmer outlet lit top-on seats shares pair twins seat to-seat of-seat called examples cramped
 all-right = refl

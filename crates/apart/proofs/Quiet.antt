@@ -1,15 +1,12 @@
 -- What a step leaves: as many bytes of link memory, and of a broadcast the room as it was.
-use Prim.Native.Nat.{ℕ, _<_, zero-le}
+use Prim.Native.Nat.{ℕ, zero-le}
 use mathlib.Core.Path.{_≡_, refl}
-use mathlib.Core.Bool.{true, _&&_}
+use mathlib.Core.Bool.{true}
 use mathlib.Core.List.{List, []}
-use native.Mathlib.Omega.{arith}
-use lib.Dec.{ltb, leb}
 use lib.ListN.{length, take, drop}
-use borrow.Author.Tests.{ltb-true, leb-true, le-ltb}
+use borrow.Author.Tests.{le-ltb}
 use Rattle.basis.specs.Choice.{choose}
-use Rattle.basis.proofs.Choice.{either, by}
-use Rattle.basis.proofs.Tests.{both}
+use Rattle.basis.proofs.Choice.{either}
 use Rattle.wire.specs.declared.command.GroupCommand.{GroupCommand}
 use Rattle.wire.specs.declared.kind.Message.{Message}
 use Rattle.wire.specs.declared.kind.MessageKind.{MessageKind}
@@ -19,10 +16,9 @@ use Rattle.wire.specs.Kinds.{isBroadcast, isForeign, kindOf}
 use Rattle.wire.specs.Checksum.{isSumWrong}
 use Rattle.wire.specs.Reading.{readOf}
 use Rattle.links.specs.declared.search.Found.{Found}
-use Rattle.links.specs.Record.{isFit, records}
+use Rattle.links.specs.Record.{isFit}
 use Rattle.links.specs.Search.{searchOf}
-use Rattle.links.specs.Write.{writtenIfThere}
-use Rattle.links.proofs.Written.{length-written}
+use Rattle.links.proofs.Written.{length-kept}
 use Rattle.reply.specs.declared.due.Due.{Due}
 use Rattle.module.specs.declared.state.Module.{Module}
 use Rattle.module.specs.declared.deed.GroupDeed.{GroupDeed}
@@ -35,20 +31,9 @@ use Rattle.decide.specs.Ruling.{readRuling, rulingBy, rulingOf}
 use Rattle.device.specs.Step.{Step, linksAfter, stepOf}
 use Rattle.row.proofs.Readings.{not-direct, not-cleanup}
 
--- a write alters no length
-write-length : (l : List ℕ) (k : ℕ) (bytes : List ℕ) → length (writtenIfThere l k bytes) ≡ length l
-unfolding writtenIfThere
-write-length l k bytes =
-    by (λ (x : List ℕ). length x ≡ length l) (ltb k (records l) && leb (length bytes) 8)
-    (λ q.
-    let p = both (ltb k (records l)) (leb (length bytes) 8) q in
-    let there : k < records l = ltb-true k (records l) (p .0) in
-    length-written l k bytes (leb-true (length bytes) 8 (p .1)) (omega (arith, there)))
-    (λ q. refl)
-
 writing-length : (l d : List ℕ) (writing : Writing) → length (linksAfter l d writing) ≡ length l
 writing-length l d Writing.Nothing = refl
-writing-length l d (Writing.Record k n) = write-length l k (take n (drop 5 d))
+writing-length l d (Writing.Record k n) = length-kept l k (take n (drop 5 d))
 
 pub same-bytes : (m : Module) (l s room : List ℕ) → length (stepOf m l s room .links) ≡ length l
 same-bytes m l s room = either (λ (t : Step). length (t .links) ≡ length l) _ refl (writing-length l _ (rulingOf m l s .plan .writing))

@@ -118,6 +118,7 @@ each-once =
       links-records = λ _. by-value _;
       links-record-or-blank = λ _ _. by-value _;
       links-is-end-mark = λ _. by-value _;
+      links-up-to-mark = λ _ _ _. by-value _;
       links-search = λ _ _. by-value _;
       links-is-found = λ _. by-value _;
       links-name-of = λ _. by-value _;

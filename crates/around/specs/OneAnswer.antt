@@ -1,5 +1,5 @@
 -- One answer only: two results that a public function's promise allows are equal ("What the promises have to say").
-use Prim.Native.Nat.{ℕ, min}
+use Prim.Native.Nat.{ℕ, _-_, min}
 use mathlib.Core.Path.{_≡_}
 use mathlib.Core.Bool.{Bool}
 use mathlib.Core.List.{List, [], _∷_}
@@ -21,6 +21,7 @@ use Rattle.links.specs.declared.search.Searched.{Searched}
 use Rattle.links.specs.declared.name.Place.{Place}
 use Rattle.links.specs.Record.{isFit, records, recordOrBlank, isEndMark}
 use Rattle.links.specs.Name.{nameOf, placeOf}
+use Rattle.links.specs.Mark.{upToMark}
 use Rattle.links.specs.Search.{searchOf, isFound}
 use Rattle.links.specs.Write.{writtenIfThere}
 use Rattle.reply.specs.declared.due.ReplyType.{ReplyType}
@@ -136,6 +137,7 @@ pub record EachOnce : Type 0 where
   pub links-records : (l : List ℕ) → Only (λ (r : ℕ). r ≡ records l)
   pub links-record-or-blank : (l : List ℕ) (k : ℕ) → Only (λ (r : List ℕ). r ≡ recordOrBlank l k)
   pub links-is-end-mark : (r : List ℕ) → Only (λ (b : Bool). b ≡ isEndMark r)
+  pub links-up-to-mark : (l : List ℕ) (k n : ℕ) → Only (λ (r : ℕ). r ≡ upToMark l (min n (records l - k)) k)
   pub links-search : (l : List ℕ) (w : Wanted) → Only (λ (r : Searched). r ≡ searchOf l w)
   pub links-is-found : (f : Found) → Only (λ (r : Bool). r ≡ isFound f)
   pub links-name-of : (k : ℕ) → Only (λ (r : ℕ). r ≡ nameOf k)

@@ -50,12 +50,17 @@ behind room xs ys first more h p q =
     let n : length xs ≡ length first + (length room - length first) = ap length e ∙ simp (length-append, length-drop) in
     inner (length first) xs ys more (omega arith) q ∙ rw (e, take-append-seam first, drop-append-seam first, drop-drop, length-append, append-assoc)
 
--- a turn of a loop that lays one message behind another: with what is left to lay it gives the whole
-pub turn : (a : ℕ) (xs ys m later : List ℕ) → a + length m ≤ length xs → ys ≡ laidIfFits (midOf a (length xs - a) xs) m
-    → take (a + length m) (putMid a (length xs - a) xs ys) ++ laid later (drop (a + length m) (putMid a (length xs - a) xs ys)) ≡ take a xs ++ laid (m ++ later) (drop a xs)
-turn a xs ys m later h q =
+-- where m was laid from a on: with what is left to lay it gives the whole
+pub further : (a : ℕ) (xs zs m later : List ℕ) → a + length m ≤ length xs → zs ≡ take a xs ++ laid m (drop a xs)
+    → take (a + length m) zs ++ laid later (drop (a + length m) zs) ≡ take a xs ++ laid (m ++ later) (drop a xs)
+further a xs zs m later h q =
     let p : List ℕ = take a xs ++ m in
     let z : List ℕ = drop (length m) (drop a xs) in
-    let e : putMid a (length xs - a) xs ys ≡ p ++ z = inner a xs ys m (omega arith) q ∙ sym (append-assoc (take a xs) m z) in
+    let e : zs ≡ p ++ z = q ∙ sym (append-assoc (take a xs) m z) in
     let n : length p ≡ a + length m = length-append (take a xs) m ∙ ap (λ (k : ℕ). k + length m) (length-take-le a xs (omega arith)) in
     rw (e, take-at p z (a + length m) n, drop-at p z (a + length m) n) (simp (append-assoc, drop-drop, length-append, add-assoc))
+
+-- so it is in a turn of a loop that lays one message behind another
+pub turn : (a : ℕ) (xs ys m later : List ℕ) → a + length m ≤ length xs → ys ≡ laidIfFits (midOf a (length xs - a) xs) m
+    → take (a + length m) (putMid a (length xs - a) xs ys) ++ laid later (drop (a + length m) (putMid a (length xs - a) xs ys)) ≡ take a xs ++ laid (m ++ later) (drop a xs)
+turn a xs ys m later h q = further a xs (putMid a (length xs - a) xs ys) m later h (inner a xs ys m (omega arith) q)

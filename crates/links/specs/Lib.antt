@@ -4,4 +4,6 @@ pub mod Live
 pub mod Name
 pub mod Search
 pub mod Settled
+pub mod LiveList
+pub mod Mark
 pub mod Write

@@ -1,5 +1,5 @@
 -- Records of link memory, and their bits ("Link memory").
-use Prim.Native.Nat.{ℕ, _+_, _*_, _/_, _%_}
+use Prim.Native.Nat.{ℕ, _*_, _/_, _%_}
 use mathlib.Core.Bool.{Bool, _&&_, not}
 use mathlib.Core.List.{List}
 use lib.Dec.{eqb, ltb}
@@ -18,12 +18,12 @@ isFit l = within 1 2048 (length l) && eqb (length l % 8) 0
 abbrev pub records : List ℕ → ℕ
 records l = length l / 8
 
--- where record k stands: records of eight bytes, record 0 first
-abbrev pub startOf : ℕ → ℕ
-startOf k = k * 8
+-- where record k of a memory stands: records of eight bytes, record 0 first
+unfoldable pub startOf : List ℕ → ℕ → ℕ
+startOf l k = k * 8
 
 abbrev pub recordAt : List ℕ → ℕ → List ℕ
-recordAt l k = spell 8 (startOf k) l
+recordAt l k = spell 8 (startOf l k) l
 
 -- past the last record, a never-used one
 abbrev pub recordOrBlank : List ℕ → ℕ → List ℕ

@@ -10,7 +10,7 @@ use Rattle.links.specs.Record.{records, startOf, recordAt}
 
 -- the bytes go over the first ones of record k; the rest of it, and every other record, stays
 abbrev pub written : List ℕ → ℕ → List ℕ → List ℕ
-written l k bytes = take (startOf k) l ++ laid bytes (drop (startOf k) l)
+written l k bytes = take (startOf l k) l ++ laid bytes (drop (startOf l k) l)
 
 -- nothing where there is no record k, or more than eight bytes
 unfoldable pub writtenIfThere : List ℕ → ℕ → List ℕ → List ℕ

@@ -1,7 +1,7 @@
 // Link memory as records of eight bytes, and the tests of a record ("Link memory").
 use wire::address::Address;
 ghost use mathlib.Core.Path.{_≡_};
-ghost use Prim.Native.Nat.{_+_, _≤_};
+ghost use Prim.Native.Nat.{_+_, _≤_, _<_};
 ghost use lib.ListN.{length};
 ghost use Rattle.links.specs.Record.{isFit, records, startOf, recordAt, recordOrBlank, linkOf, isInUse, isResponder, isEndMark, bears};
 
@@ -32,8 +32,8 @@ pub fn records(links: &[u8]) -> usize
 
 // Where record `k`, which is there, stands.
 pub(crate) fn start_of(links: &[u8], k: usize) -> usize
-    requires { ⌜ startOf k + 8 ≤ length (now links) ⌝ }
-    ensures { λ r. ⌜ r ≡ startOf k ⌝ }
+    requires { ⌜ k < records (now links) ⌝ }
+    ensures { λ r. ⌜ (r ≡ startOf (now (links .entry)) k) × (r + 8 ≤ length (now (links .entry))) ⌝ }
 {
     k * 8
 }
@@ -51,7 +51,7 @@ pub fn record_or_blank(links: &[u8], k: usize) -> [u8; 8]
 
 // Record `k`, which is there.
 pub(crate) fn record_at(links: &[u8], k: usize) -> [u8; 8]
-    requires { ⌜ startOf k + 8 ≤ length (now links) ⌝ }
+    requires { ⌜ k < records (now links) ⌝ }
     ensures { λ r. ⌜ r ≡ recordAt (now (links .entry)) k ⌝ }
 {
     let b = start_of(links, k);

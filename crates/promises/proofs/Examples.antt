@@ -7,9 +7,11 @@ use Rattle.wire.specs.Commands.{standards, extendeds, groupCommandOf}
 use Rattle.wire.specs.Kinds.{kindOf}
 use Rattle.wire.specs.Reading.{readOf}
 use Rattle.links.specs.Name.{meant, placeOf}
+use Rattle.links.specs.Record.{startOf}
 use Rattle.links.specs.Search.{stopOf}
+use Rattle.links.specs.Mark.{upToMark}
 use Rattle.links.specs.Write.{writtenIfThere}
-use Rattle.reply.specs.Records.{recordsFrom, upToMark}
+use Rattle.reply.specs.Records.{recordsFrom}
 use Rattle.module.specs.Deed.{limited, groupedBy}
 use Rattle.shared.specs.Standard.{flagsTold}
 use Rattle.shared.specs.Extended.{propertyDeed, propertiesDeed, recordDeed, databaseDeed}
@@ -33,26 +35,26 @@ use Rattle.promises.specs.Hops.{flagged-by, shown-by, id-by, each-type, 
 use Rattle.promises.specs.Sequence.{calls, OneAfterTheOther}
 
 pub examples-right : AllRight examples
-unfolding choose firstFrom flagged standards extendeds groupCommandOf kindOf readOf meant placeOf stopOf writtenIfThere recordsFrom
+unfolding choose firstFrom flagged standards extendeds groupCommandOf kindOf readOf meant placeOf startOf stopOf writtenIfThere recordsFrom
     upToMark statusEntry loadEntry flagsTold percentEntry limited groupedBy propertyDeed propertiesDeed rampEntry propertyEntry propertiesEntry recordDeed
     databaseDeed directPlan rulingBy withLevel withRamp fresh us linked stranger zeros first-record other-record memory direct
     long cleanup broadcast reply room head database last examples
 examples-right = refl
 
 pub refusals-right : AllRight refusals
-unfolding choose firstFrom flagged standards extendeds groupCommandOf kindOf readOf meant placeOf stopOf writtenIfThere recordsFrom
+unfolding choose firstFrom flagged standards extendeds groupCommandOf kindOf readOf meant placeOf startOf stopOf writtenIfThere recordsFrom
     upToMark statusEntry loadEntry flagsTold percentEntry limited groupedBy propertyDeed propertiesDeed rampEntry propertyEntry propertiesEntry recordDeed
     databaseDeed directPlan rulingBy withLevel withRamp fresh us linked stranger zeros first-record other-record memory direct
     long cleanup broadcast reply room ping refusals
 refusals-right = refl
 
 pub one-after-the-other : OneAfterTheOther
-unfolding choose firstFrom standards kindOf readOf stopOf statusEntry percentEntry loadEntry directPlan rulingBy runOf withLevel withRamp
+unfolding choose firstFrom standards kindOf readOf startOf stopOf statusEntry percentEntry loadEntry directPlan rulingBy runOf withLevel withRamp
     fresh us linked zeros first-record memory direct reply room calls
 one-after-the-other = refl
 
 pub outlets-right : AllRight outlets
-unfolding choose firstFrom flagged standards extendeds groupCommandOf kindOf readOf meant placeOf stopOf writtenIfThere recordsFrom upToMark
+unfolding choose firstFrom flagged standards extendeds groupCommandOf kindOf readOf meant placeOf startOf stopOf writtenIfThere recordsFrom upToMark
     statusEntry loadEntry outlet-load.statusEntry outlet-load.loadEntry flagsTold limited groupedBy bottomEntry secondEntry fullOf bitOf outlet-properties.propertyEntry
     outlet-properties.propertiesEntry propertyDeed propertiesDeed recordDeed databaseDeed socketGroup directPlan rulingBy fresh us linked
     stranger zeros first-record other-record memory direct long cleanup broadcast reply room head database outlet switched record-of
@@ -60,6 +62,6 @@ unfolding choose firstFrom flagged standards extendeds groupCommandOf kindOf rea
 outlets-right = refl
 
 pub hops-right : AllRight hop-examples
-unfolding choose firstFrom standards extendeds groupCommandOf kindOf readOf stopOf percentEntry loadEntry groupedBy propertyEntry propertiesEntry directPlan
+unfolding choose firstFrom standards extendeds groupCommandOf kindOf readOf startOf stopOf percentEntry loadEntry groupedBy propertyEntry propertiesEntry directPlan
     rulingBy withLevel fresh us linked stranger zeros first-record memory reply room flagged-by shown-by id-by each-type hop-examples
 hops-right = refl

@@ -8,8 +8,10 @@ use Rattle.wire.specs.Commands.{extendeds}
 use Rattle.wire.specs.Kinds.{kindOf}
 use Rattle.wire.specs.Reading.{readOf}
 use Rattle.links.specs.Name.{meant, placeOf}
+use Rattle.links.specs.Record.{startOf}
 use Rattle.links.specs.Search.{stopOf}
-use Rattle.reply.specs.Records.{recordsFrom, upToMark}
+use Rattle.links.specs.Mark.{upToMark}
+use Rattle.reply.specs.Records.{recordsFrom}
 use Rattle.shared.specs.Extended.{recordDeed, databaseDeed}
 use Rattle.decide.specs.Decide.{directPlan}
 use Rattle.decide.specs.Ruling.{rulingBy}
@@ -22,7 +24,7 @@ full zero = []
 full (suc n) = first-record ++ full n
 
 pub reached : Reached
-unfolding choose firstFrom extendeds kindOf readOf meant placeOf stopOf recordsFrom upToMark recordDeed databaseDeed directPlan rulingBy
+unfolding choose firstFrom extendeds kindOf readOf meant placeOf startOf stopOf recordsFrom upToMark recordDeed databaseDeed directPlan rulingBy
     fresh us linked zeros first-record long full
 reached =
     record {

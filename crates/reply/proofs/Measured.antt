@@ -13,7 +13,8 @@ use Rattle.wire.specs.declared.address.Address.{Address}
 use Rattle.reply.specs.declared.due.Head.{Head}
 use Rattle.reply.specs.declared.send.Sent.{Sent}
 use Rattle.reply.specs.Message.{headOf}
-use Rattle.reply.specs.Records.{upToMark, countSent, sentRecords}
+use Rattle.links.specs.Mark.{upToMark}
+use Rattle.reply.specs.Records.{countSent, sentRecords}
 use Rattle.reply.specs.Sending.{sentOf, Sending}
 use Rattle.reply.proofs.Upward.{length-records}
 

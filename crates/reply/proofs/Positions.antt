@@ -12,7 +12,8 @@ use Rattle.basis.specs.First.{firstFrom}
 use Rattle.basis.proofs.First.{Told, at, nowhere, told}
 use Rattle.basis.proofs.Tests.{clash}
 use Rattle.links.specs.Record.{records}
-use Rattle.reply.specs.Records.{limit, markAt, upToMark, countSent}
+use Rattle.links.specs.Mark.{markAt, upToMark}
+use Rattle.reply.specs.Records.{limit, countSent}
 use Rattle.reply.specs.Positions.{Ending, asked, marked, memory-end, SentFrom}
 
 -- what bounds them: the count, 00 for none, and the memory's end

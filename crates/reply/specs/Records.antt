@@ -1,12 +1,11 @@
 -- The records that Get Database sends ("Direct commands, extended").
 use Prim.Native.Nat.{ℕ, zero, suc, _+_, _-_, _/_, _%_, min}
-use mathlib.Core.Bool.{Bool}
 use mathlib.Core.List.{List, [], _∷_, _++_}
 use lib.Dec.{eqb}
 use Rattle.basis.specs.Choice.{choose}
-use Rattle.basis.specs.First.{firstFrom}
 use Rattle.wire.specs.declared.address.Address.{Address}
-use Rattle.links.specs.Record.{records, recordAt, isEndMark}
+use Rattle.links.specs.Record.{records, recordAt}
+use Rattle.links.specs.Mark.{upToMark}
 use Rattle.links.specs.Name.{nameOf}
 use Rattle.reply.specs.Message.{extended}
 
@@ -25,14 +24,7 @@ recordsFrom own to hops data1 l (suc n) k = recordMessage own to hops data1 l k 
 abbrev pub limit : List ℕ → ℕ → ℕ → ℕ
 limit l k count = min (records l - k) (choose (eqb count 0) (records l) count)
 
-abbrev pub markAt : List ℕ → ℕ → Bool
-markAt l k = isEndMark (recordAt l k)
-
--- of n records from k on, those before the first end mark, and the end mark
-unfoldable pub upToMark : List ℕ → ℕ → ℕ → ℕ
-upToMark l n k = min n (firstFrom (markAt l) n k + 1 - k)
-
--- how many are sent from record k on
+-- how many are sent from record k on: those up to an end mark, with it
 abbrev pub countSent : List ℕ → ℕ → ℕ → ℕ
 countSent l k count = upToMark l (limit l k count) k
 

@@ -9,7 +9,7 @@ ghost use Prim.Native.Nat.{_≤_};
 ghost use Rattle.reply.specs.Message.{typeBits, replyFlags, standard, dataBytes, extended, headOf};
 
 // Type and extended bit stay; the request's largest hop count is what is left of hops and what is largest (request 4).
-fn reply_flags(reply_type: ReplyType, hops: u8) -> u8
+pub(crate) fn reply_flags(reply_type: ReplyType, hops: u8) -> u8
     ensures { λ r. ⌜ r ≡ replyFlags «reply_type» hops ⌝ }
 {
     type_bits(reply_type) + 5 * (hops % 4)

@@ -23,4 +23,4 @@ record-at-spec =
     (λ c. search needs)
     (λ c. search needs)
     (λ c. search needs)
-    (λ c. rw (c .before .before .before .before .before .before .before .before .start-of .ensures, add-zero)))
+    (λ c. rw (c .before .before .before .before .before .before .before .before .start-of .ensures .0, add-zero)))

@@ -24,9 +24,9 @@ returns-3 : tie.Need-returns-3
 unfolding writtenIfThere choose
 returns-3 c =
     let g = c .before .before .before .before .before .before .before .before .before .before .args in
-    let there = c .before .before .before .before .start-of .ensures in
+    let there = c .before .before .before .before .start-of .ensures .0 in
     rw (lt-ltb (g .k) (records (g .links .now)) (omega arith), le-leb (length (g .bytes .now)) 8 (omega arith), there)
-    (inner (startOf (g .k)) (g .links .now) _ (g .bytes .now) (omega arith) (rw there at (c .before .before .lay .ensures)))
+    (inner (startOf (g .links .now) (g .k)) (g .links .now) _ (g .bytes .now) (omega arith) (rw there at (c .before .before .lay .ensures)))
 
 pub write-spec : {M : Type 1} → statement M
 write-spec =

@@ -8,10 +8,9 @@ use native.Mathlib.Omega.{arith}
 use borrow.Author.Needs.{needs}
 use Rattle.basis.specs.First.{firstFrom}
 use Rattle.basis.proofs.First.{none, here, later}
-use Rattle.links.proofs.Taken.{taken}
-use Rattle.reply.specs.Records.{markAt, upToMark}
-use Rattle.reply.proofs.records.up_to_mark.Statement.{statement}
-use Rattle.reply.proofs.records.up_to_mark.Tie as tie
+use Rattle.links.specs.Mark.{markAt, upToMark}
+use Rattle.links.proofs.mark.count_to_mark.Statement.{statement}
+use Rattle.links.proofs.mark.count_to_mark.Tie as tie
 
 abbrev Inv-loop : tie.InvT-loop
 Inv-loop links k n i₀ i = (i ≤ n) × (firstFrom (markAt links) (n - i) (k + i) ≡ firstFrom (markAt links) n k)
@@ -29,7 +28,7 @@ loop-again c =
     let g = c .before .before .before .before .before .before .args in
     let i = c .before .before .before .before .loop .i in
     let l = g .links .now in
-    let q = c .before .before .record-or-blank .ensures ∙ taken l (g .k + i) (omega arith) in
+    let q = c .before .before .record-at .ensures in
     let e : markAt l (g .k + i) ≡ false = sym (rw q at (c .before .is-end-mark .ensures)) ∙ c .if2 .left in
     let p : g .n - (i + 1) ≡ pred (g .n - i) = omega arith in
     let s : g .k + (i + 1) ≡ g .k + i + 1 = omega arith in
@@ -49,13 +48,13 @@ returns-2 c =
     let g = c .before .before .before .before .before .before .args in
     let i = c .before .before .before .before .loop .i in
     let l = g .links .now in
-    let q = c .before .before .record-or-blank .ensures ∙ taken l (g .k + i) (omega arith) in
+    let q = c .before .before .record-at .ensures in
     let e : markAt l (g .k + i) ≡ true = sym (rw q at (c .before .is-end-mark .ensures)) ∙ c .if2 .taken in
     let m : g .k + i ≡ firstFrom (markAt l) (g .n) (g .k) = sym (here (markAt l) (g .n - i) (g .k + i) (omega arith) e) ∙ c .before .before .before .before .loop .inv .1 in
     stops l (g .n) (g .k) (i + 1) (g .k + i) (sym m) (omega arith)
 
-pub up-to-mark-spec : {M : Type 1} → statement M
-up-to-mark-spec =
+pub count-to-mark-spec : {M : Type 1} → statement M
+count-to-mark-spec =
     tie.close
     (tie.spec
     Inv-loop

@@ -8,7 +8,7 @@ use Rattle.basis.specs.Choice.{choose}
 use Rattle.basis.proofs.Tests.{both}
 use Rattle.wire.specs.declared.address.Address.{Address}
 use Rattle.wire.specs.declared.kind.Reading.{Reading}
-use Rattle.wire.specs.Bytes.{dataOf, isWhole}
+use Rattle.wire.specs.Bytes.{namedIn, dataOf, isWhole}
 use Rattle.wire.specs.Kinds.{isForeign, kindOf}
 use Rattle.wire.specs.Checksum.{isSumWrong}
 use Rattle.wire.specs.Reading.{wellFormed, readOf}
@@ -21,6 +21,6 @@ module _ (s : List ℕ) (own : Address) (w : wellFormed s own ≡ true) where
       (b .0, not-true _ (b .1), not-true _ (a .1))
 
   -- its kind, with its data bytes beside it
-  pub heard : readOf s own ≡ record { reading = Reading.Heard (kindOf s); «data» = dataOf s }
+  pub heard : readOf s own ≡ record { to = namedIn s; reading = Reading.Heard (kindOf s); «data» = dataOf s }
   unfolding readOf choose
   heard = rw (parts .0, parts .1, parts .2)

@@ -164,7 +164,7 @@ module _ {M : Type 1} (𝓤 : URA M) (H : Heap 𝓤) (A : Atoms 𝓤) (W : Given
   all-of zs = zs ++ behind
 
   comes : (t : ClassAnswer) (zs : List Module) (zl zr : List ℕ) → Said t zs zl zr → SeatsCome (firstOf ss n ls ms rs) (made t (all-of zs)) zl zr
-  comes t zs zl zr e = record { number = e .number; outcome = e .outcome; sent = e .sent; read = e .read; seats = ap all-of (e .seats); memory = e .memory; room-after = e .room-after }
+  comes t zs zl zr e = record { number = e .number; outcome = e .outcome; sent = e .sent; read = e .read; whom = e .whom; seats = ap all-of (e .seats); memory = e .memory; room-after = e .room-after }
 
   abbrev OwnMsg : Fml
   OwnMsg = ShrSlice (named 1) κm u8 .own xm (sm ∷ [])

@@ -48,11 +48,11 @@ use denote.Triple.Table.{entered, cited}
 use denote.Triple.Walked.{says, Stays, stay-slice, stay-none-slice, walkOf, goes-slice, goes-none-slice, Walks, ends-at, walked, walk-meets}
 use denote.Exit.{yes}
 use Rattle.wire.specs.declared.kind.Message.{Message}
+use Rattle.wire.specs.Reading.{heardIn}
 use Rattle.wire.proofs.kind.Message as Q
 use Rattle.wire.proofs.kind.Message.Laws as Q′
 use Rattle.module.specs.declared.state.Module.{Module}
 use Rattle.row.specs.declared.progress.Progress.{Progress}
-use Rattle.row.specs.Row.{heardIn}
 use Rattle.class.specs.Seat.{nobody, seatAt}
 use Rattle.class.specs.Class.{ClassStep, classOf, ClassComes}
 use Rattle.row.specs.Round.{opened}
@@ -68,9 +68,9 @@ use Rattle.class.proofs.Runs.{Runs, Next, next, over}
 use Rattle.class.proofs.Rounds.{opens}
 use Rattle.class.proofs.AskTend.{Tend, to-tend, goes, Got, answered}
 use Rattle.class.proofs.AskOpen.{Hear, Open, to-hear, goes-hear, GotHeard, heard-so, to-open, goes-open, GotOpened, opened-so}
-use Rattle.row.proofs.open.hear.Symbol as hear-def
-use Rattle.row.proofs.open.hear.Symbol.{name as #hear}
-use Rattle.row.proofs.open.hear.Met as hear-thm
+use Rattle.wire.proofs.read.hear.Symbol as hear-def
+use Rattle.wire.proofs.read.hear.Symbol.{name as #hear}
+use Rattle.wire.proofs.read.hear.Met as hear-thm
 use Rattle.row.proofs.open.open.Symbol as open-def
 use Rattle.row.proofs.open.open.Symbol.{name as #open}
 use Rattle.row.proofs.open.open.Met as open-thm
@@ -189,7 +189,7 @@ module _ {M : Type 1} (𝓤 : URA M) (H : Heap 𝓤) (A : Atoms 𝓤) (W : Given
     Nearer-wf = InvImage·wf (λ (z : S). z .k) (Nat·lt-wfRel .wf)
 
     -- the state before the first turn, and after one more
-    begun : (t : Progress) → t ≡ opened n (length ls₀) ms (h .reading) → h ≡ heardIn ms → Is Y.the-row t (machT t ∷ []) → S
+    begun : (t : Progress) → t ≡ opened n (length ls₀) h → h ≡ heardIn ms → Is Y.the-row t (machT t ∷ []) → S
     begun t e e-h is-t =
         let g = opens ys ls₀ ms rs₀ in
         record { k = g .left; xs = ys; ls = ls₀; rs = rs₀; t = t; same = refl; same-l = refl; same-r = refl; is-t = is-t; left = rw (e, e-h) (g .runs) }
@@ -313,7 +313,7 @@ module _ {M : Type 1} (𝓤 : URA M) (H : Heap 𝓤) (A : Atoms 𝓤) (W : Given
           assigns ! (of-opd ! (load ! (from ! (fld ! refl (stop !))) (look-in ! 40 (sub ! 1 refl (whole !))))) (from ! (stop !)) (init ! 24 refl (tt, record { fits = room .0 })) $
           assigns ! (bin ! (load ! (from ! (fld ! {τ = word} {d = 0} refl (stop !))) (look-in ! 30 (sub ! 0 {τ = word} {d = 0} refl (whole !)))) (load ! (from ! (stop !)) (look ! 24 refl)) tt) (from ! (stop !)) (init ! 22 refl (tt, tt)) $
           rewrite ! 22 (λ (y : Bool). ‵ (fat fullShare tyBool l₁₀ 0 (vbool y))) test refl $ leaves-loop ! (load ! (from ! (stop !)) (look ! 22 refl)) $ exec ! C Λ En mir.t-6 (atRet En Post) $
-          assigns ! (of-opd ! (load ! (from ! (fld ! {τ = Z′.mir} {d = 80} refl (stop !))) (look-in ! 30 (sub ! 8 {τ = Z′.mir} {d = 80} refl (whole !))))) (from ! (stop !)) (init ! 42 {τ = Z′.mir} {b = l₀} {o = 0} {v = machA (z .t .answer)} refl (typed-answer 𝓤 H A W (z .t .answer) (machA (z .t .answer)) (is-answer (z .t) (machT (z .t) ∷ []) (z .is-t)))) $
+          assigns ! (of-opd ! (load ! (from ! (fld ! {τ = Z′.mir} {d = 8} refl (stop !))) (look-in ! 30 (sub ! 1 {τ = Z′.mir} {d = 8} refl (whole !))))) (from ! (stop !)) (init ! 42 {τ = Z′.mir} {b = l₀} {o = 0} {v = machA (z .t .answer)} refl (typed-answer 𝓤 H A W (z .t .answer) (machA (z .t .answer)) (is-answer (z .t) (machT (z .t) ∷ []) (z .is-t)))) $
           closes-slice ! tt R ys (z .xs) (z .same) b o $
           -- [obs; the borrow; the token; links'; its token; msg's; its token; room's; its token; _16; …]
           returns ! (look ! 41 {τ = Z′.mir} {b = l₀} {o = 0} {v = machA (z .t .answer)} refl) $ forget ! 21 refl $ forget ! 23 refl $ forget ! 29 refl $ forget ! 31 refl $ forget ! 33 refl $ forget ! 35 refl $ forget ! 37 refl $ forget ! 39 refl $ forget ! 41 refl $
@@ -357,10 +357,11 @@ module _ {M : Type 1} (𝓤 : URA M) (H : Heap 𝓤) (A : Atoms 𝓤) (W : Given
       land ! (from ! (stop !)) (init ! 35 {τ = Q′.mir} {b = l₅} {o = 0} {v = w} refl (typed-message 𝓤 H A W h w is-h)) $ rewrite ! 35 (λ (v : Val). ‵ (fat fullShare Q′.mir l₅ 0 v)) (ap only (tells-machH h (w ∷ []) is-h)) refl $
       assigns ! (of-opd ! (load ! (from ! (fld ! refl (stop !))) (look-in ! 43 (sub ! 1 refl (whole !))))) (from ! (stop !)) (init ! 31 refl (tt, record { fits = room .0 })) $
       assigns ! (of-opd ! (load ! (from ! (fld ! refl (stop !))) (look-in ! 41 (sub ! 1 refl (whole !))))) (from ! (stop !)) (init ! 29 refl (tt, record { fits = room-l .0 })) $
-      move ! (1 ∷ []) $ use1 W (‵ (ShrSlice (named 2) κm u8 .own xm (sm ∷ [])) ⊛ ‵ (ShrSlice (named 2) κm u8 .own xm (sm ∷ []))) (shr-slice-copy 𝓤 H A W (named 2) κm u8 .twice xm (sm ∷ [])) $ split ! $
-      move ! (2 ∷ 0 ∷ []) $ fjoin ! $ use1 W (raw (Open 𝓤 H A at-mem run .pre (to-open 𝓤 H A at-mem run κm qm xm sm n (length ls₀) h))) (goes-open 𝓤 H A at-mem run κm qm xm sm n (length ls₀) h W (room .0) (room-l .0) (subst (Is Q.the-row h) (tells-machH h (w ∷ []) is-h) is-h)) $
-      calls-at ! (fmOf 𝓤 H (W .laws) 𝓣) (Open 𝓤 H A at-mem run) opens′ (to-open 𝓤 H A at-mem run κm qm xm sm n (length ls₀) h) (and-then ! (load ! (from ! (stop !)) (look ! 31 refl)) (and-then ! (load ! (from ! (stop !)) (look ! 29 refl)) (and-then ! (load ! (from ! (stop !)) (look ! 39 refl)) (and-then ! (load ! (from ! (stop !)) (look ! 35 {τ = Q′.mir} {b = l₅} {o = 0} {v = machH h} refl)) (no-more !))))) (λ v.
-      use1 W (GotOpened 𝓤 H A at-mem run κm qm xm sm n (length ls₀) h v) (opened-so 𝓤 H A at-mem run κm qm xm sm n (length ls₀) h W v) $ await ! tt $ pick ! (λ t. learn ! (λ e-t. fsplit ! $ move ! (1 ∷ []) $ facts ! Y.the-row (Is Y.the-row) (shows 𝓤 H A Y.the-row) t (v ∷ []) (λ is-t.
+      nothing ! $ use1 W (raw (Open 𝓤 H A at-mem run .pre (to-open 𝓤 H A at-mem run n (length ls₀) h)))
+      (goes-open 𝓤 H A at-mem run n (length ls₀) h W (room .0) (room-l .0) (subst (Is Q.the-row h) (tells-machH h (w ∷ []) is-h) is-h)) $
+      calls-at ! (fmOf 𝓤 H (W .laws) 𝓣) (Open 𝓤 H A at-mem run) opens′ (to-open 𝓤 H A at-mem run n (length ls₀) h)
+      (and-then ! (load ! (from ! (stop !)) (look ! 32 refl)) (and-then ! (load ! (from ! (stop !)) (look ! 30 refl)) (and-then ! (load ! (from ! (stop !)) (look ! 36 {τ = Q′.mir} {b = l₅} {o = 0} {v = machH h} refl)) (no-more !)))) (λ v.
+      use1 W (GotOpened 𝓤 H A at-mem run n (length ls₀) h v) (opened-so 𝓤 H A at-mem run n (length ls₀) h W v) $ await ! tt $ pick ! (λ t. learn ! (λ e-t. facts ! Y.the-row (Is Y.the-row) (shows 𝓤 H A Y.the-row) t (v ∷ []) (λ is-t.
       land ! (from ! (stop !)) (init ! 33 {τ = Y′.mir} {b = l₆} {o = 0} {v = v} refl (typed-progress 𝓤 H A W t v is-t)) $ rewrite ! 33 (λ (u : Val). ‵ (fat fullShare Y′.mir l₆ 0 u)) (ap only (tells-machT t (v ∷ []) is-t)) refl $
       forget ! 31 refl $ forget ! 29 refl $
       keep ! (2 ∷ 3 ∷ 4 ∷ 5 ∷ 12 ∷ 8 ∷ 1 ∷ 0 ∷ 10 ∷ 6 ∷ 13 ∷ 14 ∷ 15 ∷ 16 ∷ 17 ∷ 18 ∷ 19 ∷ 20 ∷ 21 ∷ 22 ∷ 23 ∷ 24 ∷ 25 ∷ 26 ∷ 27 ∷ 28 ∷ 29 ∷ 30 ∷ 31 ∷ 32 ∷ 33 ∷ 34 ∷ 35 ∷ 36 ∷ 37 ∷ 38 ∷ 39 ∷ 40 ∷ 41 ∷ 42 ∷ 43 ∷ 44 ∷ 45 ∷ 46 ∷ []) $
@@ -388,6 +389,6 @@ class-step-spec 𝓤 H 𝓜 𝓖 𝓡 =
     entered 𝓤 H (tripleOf 𝓤 H (𝓖 .A) class-step.signature (class-step.spec 𝓤 H (𝓖 .A) (𝓜 .mem) (𝓡 .run)))
     (tables 𝓤 H 𝓜 𝓡 code.env .C) (tables 𝓤 H 𝓜 𝓡 code.env .Λ) #class-step code.function (code.unfolded 𝓤 H 𝓜 𝓡)
     (class-step-meets 𝓤 H (𝓖 .A) (givenOf 𝓤 H 𝓜 𝓖) (𝓜 .mem) (𝓡 .run) (tablesOf 𝓤 H 𝓜 (tables 𝓤 H 𝓜 𝓡 code.env))
-    (cited 𝓤 H (Hear 𝓤 H (𝓖 .A) (𝓜 .mem) (𝓡 .run)) 𝓜 𝓡 code.env #hear hear-def.routine code.calls-row·open·hear (hear-thm.met 𝓤 H 𝓜 𝓖 𝓡))
+    (cited 𝓤 H (Hear 𝓤 H (𝓖 .A) (𝓜 .mem) (𝓡 .run)) 𝓜 𝓡 code.env #hear hear-def.routine code.calls-wire·read·hear (hear-thm.met 𝓤 H 𝓜 𝓖 𝓡))
     (cited 𝓤 H (Open 𝓤 H (𝓖 .A) (𝓜 .mem) (𝓡 .run)) 𝓜 𝓡 code.env #open open-def.routine code.calls-row·open·open (open-thm.met 𝓤 H 𝓜 𝓖 𝓡))
     (cited 𝓤 H (Tend 𝓤 H (𝓖 .A) (𝓜 .mem) (𝓡 .run)) 𝓜 𝓡 code.env #tend tend-def.routine code.calls-class·step·tend (tend-thm.met 𝓤 H 𝓜 𝓖 𝓡)))

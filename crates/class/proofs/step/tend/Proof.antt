@@ -52,7 +52,7 @@ use Rattle.row.proofs.progress.Progress as Y
 use Rattle.row.proofs.progress.Progress.Laws as Y′
 use Rattle.class.proofs.turn.Tended as N
 use Rattle.class.proofs.turn.Tended.Laws as N′
-use Rattle.class.proofs.Machine.{R, mach, machT, machH, typed-module, typed-progress, typed-message, typed-tended, tells-mach, tells-machT, tells-machH, tells-machN, parts, is-progress, is-next}
+use Rattle.class.proofs.Machine.{R, mach, machT, machH, typed-module, typed-progress, typed-message, typed-tended, tells-mach, tells-machT, tells-machH, tells-machN, parts, is-progress, is-next, behind-module}
 use Rattle.class.proofs.AskTurn.{Turned, to-turn, goes, Known, Got, answered}
 use Rattle.class.proofs.turn.turn.Symbol as turn-def
 use Rattle.class.proofs.turn.turn.Symbol.{name as #turn}
@@ -140,8 +140,8 @@ module _ {M : Type 1} (𝓤 : URA M) (H : Heap 𝓤) (A : Atoms 𝓤) (W : Given
         -- [links' last list; room's; room's token; links'; the module's cell; the open borrow; obs; auth; true; true; _11; …]
         land ! (from ! (stop !)) (init ! 20 {τ = N′.mir} {b = l₆} {o = 0} {v = w} refl (typed-tended 𝓤 H A W r w is)) $
         rewrite ! 20 (λ (u : Val). ‵ (fat fullShare N′.mir l₆ 0 u)) (ap only (tells-machN r (w ∷ []) is) ∙ parts r) refl $
-        assigns ! (of-opd ! (load ! (from ! (fld ! {τ = T′.mir} {d = 104} refl (stop !))) (look-in ! 20 (sub ! 1 {τ = T′.mir} {d = 104} refl (whole !))))) (from ! (hop ! (look ! 30 refl) (stop !))) (store-raw ! 4 refl (typed-module 𝓤 H A W (r .next) (mach (r .next)) (is-next r (w ∷ []) is))) $
-        assigns ! (of-opd ! (load ! (from ! (fld ! {τ = Y′.mir} {d = 0} refl (stop !))) (look-in ! 20 (sub ! 0 {τ = Y′.mir} {d = 0} refl (whole !))))) (from ! (stop !)) (init ! 32 {τ = Y′.mir} {b = l₀} {o = 0} {v = machT (r .progress)} refl (typed-progress 𝓤 H A W (r .progress) (machT (r .progress)) (is-progress r (w ∷ []) is))) $
+        assigns ! (of-opd ! (load ! (from ! (fld ! {τ = T′.mir} {d = 0} refl (stop !))) (look-in ! 20 (sub ! 0 {τ = T′.mir} {d = 0} refl (whole !))))) (from ! (hop ! (look ! 30 refl) (stop !))) (store-raw ! 4 refl (typed-module 𝓤 H A W (r .next) (mach (r .next)) (is-next r (w ∷ []) is))) $
+        assigns ! (of-opd ! (load ! (from ! (fld ! {τ = Y′.mir} {d = behind-module} refl (stop !))) (look-in ! 20 (sub ! 1 {τ = Y′.mir} {d = behind-module} refl (whole !))))) (from ! (stop !)) (init ! 32 {τ = Y′.mir} {b = l₀} {o = 0} {v = machT (r .progress)} refl (typed-progress 𝓤 H A W (r .progress) (machT (r .progress)) (is-progress r (w ∷ []) is))) $
         -- the borrow is closed at the new record
         owned ! R (Is R) (LL.makes T.the-type T′.the-plain 𝓤 H A) (r .next) (mach (r .next) ∷ []) (is-next r (w ∷ []) is) $ move ! (5 ∷ 0 ∷ 6 ∷ 7 ∷ 8 ∷ []) $ closes ! tt R (r .next) (mach (r .next) ∷ []) b o $
         -- [obs; the borrow; m's token; links' last list; room's; room's token; links'; true; true; _11; …]

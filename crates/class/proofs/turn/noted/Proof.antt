@@ -17,7 +17,7 @@ unfolding choose
 last c =
     let named = c .before .before .before .before .before in
     let t = named .before .before .before .args .t in
-    let few : ltb 16 (t .seats) ≡ false = le-ltb 16 (t .seats) (omega arith) in
+    let few : ltb 16 (t .task .seats) ≡ false = le-ltb 16 (t .task .seats) (omega arith) in
     rw (le-ltb _ _ (c .before .if1 .left)) (rw (named .with-name .ensures, few) at (c .settle .ensures))
 
 pub noted-spec : {M : Type 1} → statement M

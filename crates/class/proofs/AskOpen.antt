@@ -62,7 +62,8 @@ module _ {M : Type 1} (𝓤 : URA M) (H : Heap 𝓤) (A : Atoms 𝓤) (mem : Mem
     pub heard-so : Given 𝓤 H A → (w : Val) → ent 𝓤 (Hear .post to-hear w) (mean 𝓤 H A (GotHeard w))
     heard-so W w =
         qed W (raw (Hear .post to-hear w) ∷ []) ∵ updating ! $
-        use1 W (later (some (λ (r : Message). ((‵ (flft κ q) ⊛ ‵ ftrue) ⊛ ‵ (Q.the-row .own r (w ∷ []))) ⊛ raw (ensured 𝓤 H A hear.ended (hear.clauses 𝓤 H A mem run) (κ, tt) (x, tt) tt r)))) (id⊢ 𝓤 _) $ await ! tt $ pick ! (λ r.
+        use1 W (later (some (λ (r : Message). ((‵ (flft κ q) ⊛ ‵ ftrue) ⊛ ‵ (Q.the-row .own r (w ∷ []))) ⊛ raw (ensured 𝓤 H A hear.ended (hear.clauses 𝓤 H A mem run) (κ, tt) (x, tt) tt r)))) (id⊢ 𝓤 _) $
+        await ! tt $ pick ! (λ r.
         split ! $ move ! (1 ∷ []) $ use1 W (some (λ (zs : Lasts hear.ended (κ, tt) (x, tt)). ‵ (lasts hear.ended (κ, tt) (x, tt) zs) ⊛ raw (fact 𝓤 (r ≡ heardIn (x .now))))) (id⊢ 𝓤 _) $ pick ! (λ zs.
         split ! $ drop ! $ heard ! (r ≡ heardIn (x .now)) (λ e.
         split ! $ split ! $ at-once ! $

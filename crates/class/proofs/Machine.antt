@@ -1,5 +1,5 @@
 -- What the walks over a row need: the machine values of a module, a progress and an answer, and where element i of a row lies.
-use mathlib.Core.Path.{_≡_, refl}
+use mathlib.Core.Path.{_≡_, refl, subst}
 use mathlib.Core.List.{List, [], _∷_}
 use Prim.Native.Nat.{ℕ, _+_, _*_, _/_, _<_, _^_}
 use native.Mathlib.Omega.{arith}
@@ -70,6 +70,16 @@ tells-machA a vs is = LL.tells Z.the-type Z′.the-laws a vs is
 pub tells-machN : Tells N.the-row (Is N.the-row) (λ (r : Tended). machN r ∷ [])
 unfolding machN
 tells-machN r vs is = LL.tells N.the-type N′.the-laws r vs is
+
+-- so what is told of any machine value is told of this one
+pub told-message : (h : Message) (w : Val) → Is Q.the-row h (w ∷ []) → Is Q.the-row h (machH h ∷ [])
+told-message h w is = subst (Is Q.the-row h) (tells-machH h (w ∷ []) is) is
+
+pub told-progress : (t : Progress) (w : Val) → Is Y.the-row t (w ∷ []) → Is Y.the-row t (machT t ∷ [])
+told-progress t w is = subst (Is Y.the-row t) (tells-machT t (w ∷ []) is) is
+
+pub told-answer : (a : ClassAnswer) (w : Val) → Is Z.the-row a (w ∷ []) → Is Z.the-row a (machA a ∷ [])
+told-answer a w is = subst (Is Z.the-row a) (tells-machA a (w ∷ []) is) is
 
 -- an answer of `turn` in its two parts
 pub parts : (r : Tended) → machN r ≡ vstruct (vcons (mach (r .next)) (vcons (machT (r .progress)) vnil))

@@ -13,6 +13,7 @@ use Rattle.module.specs.declared.state.Module.{Module}
 use Rattle.device.specs.declared.step.Answer.{Answer}
 use Rattle.device.specs.Step.{Step, stepBy}
 use Rattle.row.specs.declared.outcome.ClassOutcome.{ClassOutcome}
+use Rattle.row.specs.declared.progress.Whom.{Whom}
 use Rattle.row.specs.declared.progress.ClassAnswer.{ClassAnswer}
 use Rattle.row.specs.declared.progress.Round.{Round}
 use Rattle.row.specs.declared.progress.Progress.{Progress}
@@ -53,7 +54,7 @@ answerOf x = record { outcome = x .outcome; length = length (x .reply); read = x
 -- one seat alone
 abbrev pub served : Progress → Answer → Tended
 served t a =
-    let answer : ClassAnswer = record { outcome = ClassOutcome.Single (a .outcome); length = a .length; read = a .read; whom = t .answer .whom } in
+    let answer : ClassAnswer = record { outcome = ClassOutcome.Single (a .outcome); length = a .length; read = a .read; whom = Whom.Seat (t .seat) } in
     record { next = a .next; progress = ended t answer }
 
 -- one of all

@@ -39,7 +39,10 @@ pub(crate) fn tend(
     room: &mut [u8],
 ) -> Progress
     requires { ⌜ Ready t (length (now links)) ⌝ }
-    ensures { λ r. ⌜ Took (turnOf (now (m .entry)) t heard (now (links .entry)) (now (room .entry))) r (now (m .exit)) (now (links .exit)) (now (room .exit)) ⌝ }
+    ensures { λ r. ⌜
+        Took (turnOf (now (m .entry)) t heard (now (links .entry)) (now (room .entry)))
+        r (now (m .exit)) (now (links .exit)) (now (room .exit))
+        ⌝ }
 {
     let a = turn(*m, t, heard, links, room);
     *m = a.next;

@@ -8,6 +8,7 @@ use row::outcome::ClassOutcome;
 use row::progress::ClassAnswer;
 use row::progress::Progress;
 use row::progress::Round;
+use row::progress::Whom;
 use row::progress::ended;
 use row::settle::settle;
 use wire::address::Address;
@@ -33,7 +34,10 @@ pub(crate) fn turn(
     room: &mut [u8],
 ) -> Tended
     requires { ⌜ Ready t (length (now links)) ⌝ }
-    ensures { λ r. ⌜ Took (turnOf m t heard (now (links .entry)) (now (room .entry))) (r .progress) (r .next) (now (links .exit)) (now (room .exit)) ⌝ }
+    ensures { λ r. ⌜
+        Took (turnOf m t heard (now (links .entry)) (now (room .entry)))
+        (r .progress) (r .next) (now (links .exit)) (now (room .exit))
+        ⌝ }
 {
     let round = t.round;
     match round {
@@ -99,15 +103,13 @@ fn step_in(m: Module, t: Progress, heard: Message, links: &mut [u8], room: &mut 
 fn served(t: Progress, a: Answer) -> Tended
     ensures { λ r. ⌜ r ≡ served t a ⌝ }
 {
-    let before = t.answer;
-    let whom = before.whom;
     let outcome = a.outcome;
     let next = a.next;
     let answer = ClassAnswer {
         outcome: ClassOutcome::Single(outcome),
         length: a.length,
         read: a.read,
-        whom: whom,
+        whom: Whom::Seat(t.seat),
     };
     Tended {
         next: next,

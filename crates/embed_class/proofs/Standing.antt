@@ -1,44 +1,45 @@
 -- Where a message to a row of images stands: whose turn it is, and what is said so far.
 use Prim.Native.Nat.{ℕ, _+_, _≤_, _<_}
 use mathlib.Core.Path.{_≡_, refl, sym, _∙_, ap, subst}
-use mathlib.Core.Bool.{Bool, true, false}
+use mathlib.Core.Bool.{true, false}
 use mathlib.Core.List.{List}
 use native.Mathlib.Omega.{arith}
 use lib.ListN.{length, drop, set, length-set}
-use Rattle.basis.specs.Choice.{choose}
+use Rattle.basis.proofs.Tests.{clash}
 use Rattle.wire.specs.declared.kind.Message.{Message}
 use Rattle.module.specs.declared.state.Module.{Module}
 use Rattle.device.specs.Step.{Step, stepBy}
 use Rattle.device.proofs.Lasting.{identity-by, kind-by}
 use Rattle.device.proofs.Counted.{most-read}
 use Rattle.row.specs.declared.outcome.ClassOutcome.{ClassOutcome}
+use Rattle.row.specs.declared.progress.Whom.{Whom}
+use Rattle.row.specs.declared.progress.Round.{Round}
 use Rattle.row.specs.declared.progress.ClassAnswer.{ClassAnswer}
 use Rattle.row.specs.declared.progress.Progress.{Progress}
 use Rattle.class.specs.Seat.{seatAt, shareAt, withShare}
 use Rattle.class.specs.Class.{ClassStep}
-use Rattle.row.specs.Round.{ended}
-use Rattle.class.specs.Turns.{Turn, offered, served, serveTurn, noteTurn, Ready}
+use Rattle.row.proofs.Noticed.{Serves, one, all}
+use Rattle.class.specs.Turns.{Turn, answerOf, offered, served, turnBy, Ready}
 use Rattle.class.proofs.Runs.{Runs, Next, next, over}
 use Rattle.image.specs.Image.{sizeOf, heldIn, storedIfOwn}
 use Rattle.embed_class.specs.Row.{imagesOf, placeIn, imageIn, withImage}
-use Rattle.embed_class.specs.Serve.{seatStepIn, withSeat, SeatComes, RowComes}
+use Rattle.embed_class.specs.Serve.{isForAll, seatStepIn, withSeat, SeatComes, RowComes}
 use Rattle.embed_class.proofs.Placed.{place-on, image-at, put-at, place-kept, kept, held-seat}
+
+-- which round it is, by the test that is made
+for-all : (r : Round) → isForAll r ≡ true → r ≡ Round.All
+for-all Round.Note e = clash e refl
+for-all Round.One e = clash e refl
+for-all Round.All e = refl
+
+for-one : (r : Round) → Serves r → isForAll r ≡ false → r ≡ Round.One
+for-one Round.One one e = refl
+for-one Round.All all e = clash refl e
 
 module _ (target : ClassStep) (heard : Message) (bytes count : ℕ) (t : Progress) where
   -- the progress t, at another seat and with another answer
   abbrev pub at : ℕ → ClassAnswer → Progress
-  at seat answer =
-      record {
-        seat = seat;
-        seats = t .seats;
-        share = t .share;
-        serving = t .serving;
-        «all» = t .«all»;
-        scope = t .scope;
-        to = t .to;
-        names = t .names;
-        answer = answer;
-      }
+  at seat answer = record { seat = seat; answer = answer; round = t .round; names = t .names; task = t .task }
 
   -- the images are those of a row from which the turns that are left lead to the target
   pub record Standing (images links room : List ℕ) (seat : ℕ) (answer : ClassAnswer) : Type 0 where
@@ -47,8 +48,8 @@ module _ (target : ClassStep) (heard : Message) (bytes count : ℕ) (t : Progres
     pub held : images ≡ imagesOf row
     pub left : ℕ
     pub runs : Runs target heard bytes left row (at seat answer) links room
-    pub seats : t .seats ≡ count
-    pub serves : seat < count → t .serving ≡ true
+    pub seats : t .task .seats ≡ count
+    pub serves : seat < count → Serves (t .round)
 
   -- no turn is left
   pub stands-over : (images links room : List ℕ) (seat : ℕ) (answer : ClassAnswer) → Standing images links room seat answer → count ≤ seat
@@ -61,6 +62,7 @@ module _ (target : ClassStep) (heard : Message) (bytes count : ℕ) (t : Progres
           outcome = c .outcome;
           sent = c .sent;
           read = c .read;
+          whom = c .whom;
           seats = refl;
           memory = c .memory;
           room-after = c .room-after;
@@ -82,46 +84,46 @@ module _ (target : ClassStep) (heard : Message) (bytes count : ℕ) (t : Progres
     m = seatAt (u .row) seat
 
     abbrev y : Step
-    y = stepBy m (shareAt (t .share) seat links) heard room
+    y = stepBy m (shareAt (t .task .share) seat links) heard room
 
     -- the image holds the module of the seat
-    same-step : seatStepIn (t .share) seat images links heard room ≡ y
+    same-step : seatStepIn (t .task .share) seat images links heard room ≡ y
     same-step =
         let it = ap (λ (s : List ℕ). heldIn (imageIn seat s) .«module») (u .held) ∙ held-seat (u .row) seat there in
-        λ j. stepBy (it j) (shareAt (t .share) seat links) heard room
+        λ j. stepBy (it j) (shareAt (t .task .share) seat links) heard room
 
     -- and is put back as that of the module afterwards
-    row-after : withImage seat (storedIfOwn (imageIn seat images) (seatStepIn (t .share) seat images links heard room .next)) images ≡ imagesOf (set (u .row) seat (y .next))
+    row-after : withImage seat (storedIfOwn (imageIn seat images) (seatStepIn (t .task .share) seat images links heard room .next)) images ≡ imagesOf (set (u .row) seat (y .next))
     row-after =
-        let stays = kept m (y .next) (identity-by m (shareAt (t .share) seat links) heard room) (kind-by m (shareAt (t .share) seat links) heard room) in
+        let stays = kept m (y .next) (identity-by m (shareAt (t .task .share) seat links) heard room) (kind-by m (shareAt (t .task .share) seat links) heard room) in
         (λ j. withImage seat (storedIfOwn (imageIn seat (u .held j)) (same-step j .next)) (u .held j))
         ∙ ap (λ (s : List ℕ). withImage seat (storedIfOwn s (y .next)) (imagesOf (u .row))) (image-at (u .row) seat there)
         ∙ ap (λ (s : List ℕ). withImage seat s (imagesOf (u .row))) stays
         ∙ put-at (u .row) seat (y .next) there
 
-    -- its turn is to be served
-    turned : Runs target heard bytes (onward .left) (set (u .row) seat (y .next)) (served (at seat answer) (y .outcome) (length (y .reply)) (y .read))
-        (withShare (t .share) seat (y .links) links) (y .room)
-    unfolding choose
-    turned =
-        let turn : Bool → Turn = λ b. choose b (serveTurn m (at seat answer) heard links room) (noteTurn m (at seat answer) heard links room) in
-        subst (λ (b : Bool). Runs target heard bytes (onward .left) (set (u .row) seat (turn b .next)) (turn b .progress) (turn b .links) (turn b .room))
-        (u .serves inside) (onward .runs)
+    -- its turn, by the round
+    abbrev Turned : Round → Type 0
+    Turned round =
+        let x : Turn = turnBy round m (at seat answer) heard links room in
+        Runs target heard bytes (onward .left) (set (u .row) seat (x .next)) (x .progress) (x .links) (x .room)
 
-    module _ (own : ClassAnswer) (images' links' room' : List ℕ) (s : SeatComes (t .share) seat images links heard room own images' links' room') where
+    turned : (round : Round) → t .round ≡ round → Turned round
+    turned round e = subst Turned e (onward .runs)
+
+    module _ (own : ClassAnswer) (images' links' room' : List ℕ) (s : SeatComes (t .task .share) seat images links heard room own images' links' room') where
       abbrev said : ClassAnswer
-      said = record { outcome = ClassOutcome.Single (y .outcome); length = length (y .reply); read = y .read }
+      said = record { outcome = ClassOutcome.Single (y .outcome); length = length (y .reply); read = y .read; whom = Whom.Seat seat }
 
       its-answer : own ≡ said
       its-answer =
           let outcome = s .outcome ∙ ap (λ (x : Step). ClassOutcome.Single (x .outcome)) same-step in
           let sent = s .sent ∙ ap (λ (x : Step). length (x .reply)) same-step in
           let read = s .read ∙ ap (λ (x : Step). x .read) same-step in
-          λ j. record { outcome = outcome j; length = sent j; read = read j }
+          λ j. record { outcome = outcome j; length = sent j; read = read j; whom = s .whom j }
 
       -- it reads no more records than a share has
       pub few : own .read ≤ 256
-      few = subst (λ (n : ℕ). n ≤ 256) (sym (s .read)) (most-read (heldIn (imageIn seat images) .«module») (shareAt (t .share) seat links) heard room)
+      few = subst (λ (n : ℕ). n ≤ 256) (sym (s .read)) (most-read (heldIn (imageIn seat images) .«module») (shareAt (t .task .share) seat links) heard room)
 
       -- its image begins where it did, so the next one begins behind it
       pub goes-on : (place size : ℕ) → place ≡ placeIn seat images → size ≡ sizeOf (drop place images') → place + size ≡ placeIn (seat + 1) images'
@@ -131,13 +133,15 @@ module _ (target : ClassStep) (heard : Message) (bytes count : ℕ) (t : Progres
           (λ j. it j + (f ∙ ap (λ (k : ℕ). sizeOf (drop k images')) it) j) ∙ sym (place-on seat images')
 
       -- wherever the turn leads, that is where the row stands
-      leads : (seat' : ℕ) (answer' : ClassAnswer) → served (at seat answer) (y .outcome) (length (y .reply)) (y .read) ≡ at seat' answer'
-          → Standing images' links' room' seat' answer'
-      leads seat' answer' e =
-          let memory = s .share-after ∙ ap (λ (x : Step). withShare (t .share) seat (x .links) links) same-step in
+      abbrev Gone : Progress → Type 0
+      Gone z = Runs target heard bytes (onward .left) (set (u .row) seat (y .next)) z (withShare (t .task .share) seat (y .links) links) (y .room)
+
+      leads : (p : Progress) → Gone p → (seat' : ℕ) (answer' : ClassAnswer) → p ≡ at seat' answer' → Standing images' links' room' seat' answer'
+      leads p runs seat' answer' e =
+          let memory = s .share-after ∙ ap (λ (x : Step). withShare (t .task .share) seat (x .links) links) same-step in
           let after = s .room-after ∙ ap (λ (x : Step). x .room) same-step in
           let stood : List Module = set (u .row) seat (y .next) in
-          let gone = subst (λ (z : Progress). Runs target heard bytes (onward .left) stood z (withShare (t .share) seat (y .links) links) (y .room)) e turned in
+          let gone : Gone (at seat' answer') = subst Gone e runs in
           let kept-links = subst (λ (z : List ℕ). Runs target heard bytes (onward .left) stood (at seat' answer') z (y .room)) (sym memory) gone in
           record {
             row = stood;
@@ -149,17 +153,12 @@ module _ (target : ClassStep) (heard : Message) (bytes count : ℕ) (t : Progres
             serves = λ h. u .serves inside;
           }
 
-      abbrev offeredOn : Progress
-      offeredOn = offered (at seat answer) (y .outcome) (y .read)
-
-      pub to-next : t .«all» ≡ true → Standing images' links' room' (seat + 1) (withSeat answer own)
-      unfolding choose
+      pub to-next : isForAll (t .round) ≡ true → Standing images' links' room' (seat + 1) (withSeat answer own)
       to-next a =
-          leads (seat + 1) (withSeat answer own)
-          (ap (λ (b : Bool). choose b offeredOn (ended (at seat answer) said)) a ∙ ap (λ (x : ClassAnswer). at (seat + 1) (withSeat answer x)) (sym its-answer))
+          leads (offered (at seat answer) (answerOf y) .progress) (turned Round.All (for-all (t .round) a)) (seat + 1) (withSeat answer own)
+          (ap (λ (x : ClassAnswer). at (seat + 1) (withSeat answer x)) (sym its-answer))
 
-      pub to-end : t .«all» ≡ false → Standing images' links' room' count own
-      unfolding choose
+      pub to-end : isForAll (t .round) ≡ false → Standing images' links' room' count own
       to-end a =
-          leads count own
-          (ap (λ (b : Bool). choose b offeredOn (ended (at seat answer) said)) a ∙ (λ j. at (u .seats j) (sym its-answer j)))
+          leads (served (at seat answer) (answerOf y) .progress) (turned Round.One (for-one (t .round) (u .serves inside) a)) count own
+          (λ j. at (u .seats j) (sym its-answer j))

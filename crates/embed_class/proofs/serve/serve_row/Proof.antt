@@ -1,6 +1,6 @@
 -- The turns that are left lead to what the class promises.
 use Prim.Native.Nat.{ℕ, _≤_, _<_, _+_, _-_}
-use mathlib.Core.Path.{_≡_, refl, _∙_, subst}
+use mathlib.Core.Path.{_≡_, refl, sym, _∙_, subst}
 use mathlib.Core.List.{List}
 use native.Mathlib.Omega.{arith}
 use lib.ListN.{length, drop}
@@ -17,7 +17,7 @@ use Rattle.embed_class.proofs.serve.serve_row.Statement.{statement}
 use Rattle.embed_class.proofs.serve.serve_row.Tie as tie
 
 abbrev Inv-loop : tie.InvT-loop
-Inv-loop images₀ count links₀ message room₀ heard t answer₀ seat₀ at₀ images links room answer seat at =
+Inv-loop images₀ count links₀ message room₀ heard t «all» answer₀ seat₀ at₀ images links room answer seat at =
     (length images ≡ length images₀)
     × (length links ≡ length links₀)
     × (length room ≡ length room₀)
@@ -25,11 +25,11 @@ Inv-loop images₀ count links₀ message room₀ heard t answer₀ seat₀ at�
     × (seat < count → at ≡ placeIn seat images)
 
 abbrev μ-loop : tie.MeasureT-loop
-μ-loop images₀ count links₀ message room₀ heard t answer₀ seat₀ at₀ images links room answer seat at = count - seat
+μ-loop images₀ count links₀ message room₀ heard t «all» answer₀ seat₀ at₀ images links room answer seat at = count - seat
 
 -- what it is called with, where the first place is known
 abbrev start : tie.After-place-of Inv-loop μ-loop → tie.Start Inv-loop μ-loop
-start p = p .before .before .before .before .before .before .before .before .before .before .before .before .before
+start p = p .before .before .before .before .before .before .before .before .before .before .before .before .before .before .before
 
 -- where a seat was served
 abbrev Turn : Type 0
@@ -67,9 +67,10 @@ inside p = lies (place-at (turn p)) (images-at (turn p)) (p .size-of .result) (p
 loop-holds : tie.Need-loop-holds Inv-loop μ-loop
 loop-holds c =
     let g = start c .args in
-    let noted = c .before .before .before .before .before .before .before .note-row in
-    let heard = c .before .before .before .before .hear in
-    let t = c .before .before .before .noticed in
+    let told = c .before .before in
+    let noted = told .before .before .before .before .before .before .before .note-row in
+    let heard = told .before .before .before .before .hear in
+    let t = told .before .before .before .noticed in
     let stands = starts (noted .result) (g .count) (g .images .now) _ (g .links .now) (g .message .now) (g .room .now) (noted .ensures .1) (noted .ensures .0) _ _ (heard .ensures) (t .ensures) in
     (refl, refl, refl, stands, λ h. c .place-of .ensures)
 
@@ -88,7 +89,7 @@ with-seat-requires c κs =
 add-at : tie.Need-add-at Inv-loop μ-loop
 add-at c =
     let p = turn c in
-    let noted = first p .before .before .before .before .before .before .before .note-row in
+    let noted = first p .before .before .before .before .before .before .before .before .before .note-row in
     omega (arith, inside c, p .serve-seat .kept .0, p .before .before .before .before .before .loop .inv .0, noted .kept .0, start (first p) .good .0)
 
 -- there are not so many seats
@@ -100,8 +101,8 @@ loop-again c =
     let p = turn c in
     let t = p .before .before .before .before .before .loop in
     let kept = p .serve-seat .kept in
-    let all = c .before .before .before .before .if1 .taken in
-    let stands = to-next _ _ _ _ _ _ _ _ _ _ (t .inv .3) (omega arith) _ _ _ _ (p .serve-seat .ensures) all in
+    let every = sym (first p .before .before .is-for-all .ensures) ∙ c .before .before .before .before .if1 .taken in
+    let stands = to-next _ _ _ _ _ _ _ _ _ _ (t .inv .3) (omega arith) _ _ _ _ (p .serve-seat .ensures) every in
     let place = goes-on _ _ _ _ _ _ _ _ _ _ (t .inv .3) (omega arith) _ _ _ _ (p .serve-seat .ensures) (t .at) (c .size-of .result) (t .inv .4 (omega arith)) (measured c) in (
       kept .0 ∙ t .inv .0,
       kept .1 .1 .1 .1 .0 ∙ t .inv .1,
@@ -115,14 +116,15 @@ loop-again-2 c =
     let p = c .before .before .before .before .before .before .before in
     let t = p .before .before .before .before .before .loop in
     let kept = p .serve-seat .kept in
-    let stands = to-end _ _ _ _ _ _ _ _ _ _ (t .inv .3) (omega arith) _ _ _ _ (p .serve-seat .ensures) (c .if1 .left) in
+    let lone = sym (first p .before .before .is-for-all .ensures) ∙ c .if1 .left in
+    let stands = to-end _ _ _ _ _ _ _ _ _ _ (t .inv .3) (omega arith) _ _ _ _ (p .serve-seat .ensures) lone in
     (kept .0 ∙ t .inv .0, kept .1 .1 .1 .1 .0 ∙ t .inv .1, kept .1 .1 .1 .1 .1 .1 .0 ∙ t .inv .2, stands, λ h. absurd (omega arith))
 
 returns : tie.Need-returns Inv-loop μ-loop
 returns c =
     let t = c .before .loop in
     let g = start (c .before .before) .args in
-    let noted = c .before .before .before .before .before .before .before .before .before .note-row in
+    let noted = c .before .before .before .before .before .before .before .before .before .before .before .note-row in
     let same = still-held (g .count) (g .images .now) (noted .last .0) (noted .ensures .1) in
     subst (λ (row : List Module). RowComes (classOf row (g .links .now) (g .message .now) (g .room .now)) (t .answer) (t .images) (t .links) (t .room)) same
     (stands-over _ _ _ _ _ _ _ _ _ _ (t .inv .3) (omega arith))
@@ -150,7 +152,7 @@ serve-row-spec =
     loop-again
     (λ c. omega arith)
     loop-again-2
-    (λ c. c .before .loop .inv .0 ∙ c .before .before .before .before .before .before .before .before .before .note-row .kept .0)
+    (λ c. c .before .loop .inv .0 ∙ c .before .before .before .before .before .before .before .before .before .before .before .note-row .kept .0)
     (λ c. c .before .loop .inv .1)
     (λ c. c .before .loop .inv .2)
     returns)

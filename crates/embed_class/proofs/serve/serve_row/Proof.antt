@@ -29,7 +29,7 @@ abbrev μ-loop : tie.MeasureT-loop
 
 -- what it is called with, where the first place is known
 abbrev start : tie.After-place-of Inv-loop μ-loop → tie.Start Inv-loop μ-loop
-start p = p .before .before .before .before .before .before .before .before .before .before .before .before .before .before .before
+start p = p .before .before .before .before .before .before .before .before .before .before .before .before .before .before
 
 -- where a seat was served
 abbrev Turn : Type 0
@@ -67,7 +67,7 @@ inside p = lies (place-at (turn p)) (images-at (turn p)) (p .size-of .result) (p
 loop-holds : tie.Need-loop-holds Inv-loop μ-loop
 loop-holds c =
     let g = start c .args in
-    let told = c .before .before in
+    let told = c .before in
     let noted = told .before .before .before .before .before .before .before .note-row in
     let heard = told .before .before .before .before .hear in
     let t = told .before .before .before .noticed in
@@ -89,7 +89,7 @@ with-seat-requires c κs =
 add-at : tie.Need-add-at Inv-loop μ-loop
 add-at c =
     let p = turn c in
-    let noted = first p .before .before .before .before .before .before .before .before .before .note-row in
+    let noted = first p .before .before .before .before .before .before .before .before .note-row in
     omega (arith, inside c, p .serve-seat .kept .0, p .before .before .before .before .before .loop .inv .0, noted .kept .0, start (first p) .good .0)
 
 -- there are not so many seats
@@ -101,7 +101,7 @@ loop-again c =
     let p = turn c in
     let t = p .before .before .before .before .before .loop in
     let kept = p .serve-seat .kept in
-    let every = sym (first p .before .before .is-for-all .ensures) ∙ c .before .before .before .before .if1 .taken in
+    let every = sym (first p .before .before .before .is-for-all .ensures) ∙ c .before .before .before .before .if1 .taken in
     let stands = to-next _ _ _ _ _ _ _ _ _ _ (t .inv .3) (omega arith) _ _ _ _ (p .serve-seat .ensures) every in
     let place = goes-on _ _ _ _ _ _ _ _ _ _ (t .inv .3) (omega arith) _ _ _ _ (p .serve-seat .ensures) (t .at) (c .size-of .result) (t .inv .4 (omega arith)) (measured c) in (
       kept .0 ∙ t .inv .0,
@@ -116,7 +116,7 @@ loop-again-2 c =
     let p = c .before .before .before .before .before .before .before in
     let t = p .before .before .before .before .before .loop in
     let kept = p .serve-seat .kept in
-    let lone = sym (first p .before .before .is-for-all .ensures) ∙ c .if1 .left in
+    let lone = sym (first p .before .before .before .is-for-all .ensures) ∙ c .if1 .left in
     let stands = to-end _ _ _ _ _ _ _ _ _ _ (t .inv .3) (omega arith) _ _ _ _ (p .serve-seat .ensures) lone in
     (kept .0 ∙ t .inv .0, kept .1 .1 .1 .1 .0 ∙ t .inv .1, kept .1 .1 .1 .1 .1 .1 .0 ∙ t .inv .2, stands, λ h. absurd (omega arith))
 
@@ -124,7 +124,7 @@ returns : tie.Need-returns Inv-loop μ-loop
 returns c =
     let t = c .before .loop in
     let g = start (c .before .before) .args in
-    let noted = c .before .before .before .before .before .before .before .before .before .before .before .note-row in
+    let noted = c .before .before .before .before .before .before .before .before .before .before .note-row in
     let same = still-held (g .count) (g .images .now) (noted .last .0) (noted .ensures .1) in
     subst (λ (row : List Module). RowComes (classOf row (g .links .now) (g .message .now) (g .room .now)) (t .answer) (t .images) (t .links) (t .room)) same
     (stands-over _ _ _ _ _ _ _ _ _ _ (t .inv .3) (omega arith))
@@ -136,6 +136,7 @@ serve-row-spec =
     Inv-loop
     μ-loop
     (λ c κs. c .before .before .before .before .before .pre)
+    (λ c κs. tt)
     (λ c κs. tt)
     (λ c κs. tt)
     (λ c κs. tt)
@@ -152,7 +153,7 @@ serve-row-spec =
     loop-again
     (λ c. omega arith)
     loop-again-2
-    (λ c. c .before .loop .inv .0 ∙ c .before .before .before .before .before .before .before .before .before .before .before .note-row .kept .0)
+    (λ c. c .before .loop .inv .0 ∙ c .before .before .before .before .before .before .before .before .before .before .note-row .kept .0)
     (λ c. c .before .loop .inv .1)
     (λ c. c .before .loop .inv .2)
     returns)

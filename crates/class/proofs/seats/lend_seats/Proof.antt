@@ -306,27 +306,22 @@ module _ {M : Type 1} (𝓤 : URA M) (H : Heap 𝓤) (A : Atoms 𝓤) (W : Given
         whole-is zs vs p = subst (Is seats-row zs) (told-by zs vs p) p
 
 module _ {M : Type 1} (𝓤 : URA M) (H : Heap 𝓤) (A : Atoms 𝓤) (W : Given 𝓤 H A) (mem : Memory → SProp 𝓤) (run : Routine → Fun 𝓤) where
-  lend-seats-walks : (C : Calls 𝓤 H) (Λ : Loops 𝓤 H) → FmC 𝓤 H (W .laws) C → Triple 𝓤 (C #class-step) (Stepped 𝓤 H A mem run) → Walks 𝓤 H A lend-seats.ended stayed (WpFn 𝓤 H C Λ code.function)
-      (lend-seats.clauses 𝓤 H A mem run)
+  lend-seats-walks : (C : Calls 𝓤 H) (Λ : Loops 𝓤 H) → FmC 𝓤 H (W .laws) C → Triple 𝓤 (C #class-step) (Stepped 𝓤 H A mem run)
+      → Walks 𝓤 H A lend-seats.ended stayed (WpFn 𝓤 H C Λ code.function) (lend-seats.clauses 𝓤 H A mem run)
   lend-seats-walks C Λ fm known = walked 𝓤 H A lend-seats.ended stayed (lend-seats.clauses 𝓤 H A mem run) (WpFn 𝓤 H C Λ code.function)
-      (λ κs. (av, (uint-vals w64, (slice-vals, (slice-vals, (slice-vals, tt)))))) (λ κs. (
-        told-by,
-        (
-          uint-tells w64,
-          (
-            mut-slice-tells (named 0)
-                (κs .0) u8,
-            (shr-slice-tells (named 1) (κs .1 .0) u8, (mut-slice-tells (named 2) (κs .1 .1 .0) u8, tt)),
-          ),
-        ),
-      ))
-      (λ κs qs bounds a g are. needs 𝓤 _ _
-      (walk 𝓤 H A W mem run (κs .0) (κs .1 .0) (κs .1 .1 .0) (qs .0) (qs .1 .0) (qs .1 .1 .0) (a .0) (are .0) (a .1 .0) (are .1 .0 .1) (a .1 .1 .0 .ptr .0) (a .1 .1 .0 .ptr .1) (a .1 .1 .0 .name) (a .1 .1 .0 .now)
-      (a .1 .1 .1 .0 .ptr .0) (a .1 .1 .1 .0 .ptr .1) (a .1 .1 .1 .0 .name) (a .1 .1 .1 .0 .now) (a .1 .1 .1 .1 .0 .ptr .0) (a .1 .1 .1 .1 .0 .ptr .1) (a .1 .1 .1 .1 .0 .name) (a .1 .1 .1 .1 .0 .now) C Λ fm known (are .1 .1 .0 .0 .1)
-      (are .1 .1 .1 .0 .0 .1) (are .1 .1 .1 .1 .0 .0 .1)))
+      (λ κs. (av, (uint-vals w64, (slice-vals, (slice-vals, (slice-vals, tt))))))
+      (λ κs. (told-by, (uint-tells w64, (mut-slice-tells (named 0) (κs .0) u8, (shr-slice-tells (named 1) (κs .1 .0) u8, (mut-slice-tells (named 2) (κs .1 .1 .0) u8, tt))))))
+      (λ κs qs bounds a g are.
+      let links : RefT (List ℕ) = a .1 .1 .0 in
+      let message : RefT (List ℕ) = a .1 .1 .1 .0 in
+      let lent : RefT (List ℕ) = a .1 .1 .1 .1 .0 in
+      needs 𝓤 _ _
+      (walk 𝓤 H A W mem run (κs .0) (κs .1 .0) (κs .1 .1 .0) (qs .0) (qs .1 .0) (qs .1 .1 .0) (a .0) (are .0) (a .1 .0) (are .1 .0 .1)
+      (links .ptr .0) (links .ptr .1) (links .name) (links .now) (message .ptr .0) (message .ptr .1) (message .name) (message .now)
+      (lent .ptr .0) (lent .ptr .1) (lent .name) (lent .now) C Λ fm known (are .1 .1 .0 .0 .1) (are .1 .1 .1 .0 .0 .1) (are .1 .1 .1 .1 .0 .0 .1)))
 
-lend-seats-meets : {M : Type 1} (𝓤 : URA M) (H : Heap 𝓤) (A : Atoms 𝓤) → Given 𝓤 H A → (mem : Memory → SProp 𝓤) (run : Routine → Fun 𝓤) (𝓣 : Tables 𝓤 H) → Triple 𝓤 (𝓣 .C #class-step)
-    (Stepped 𝓤 H A mem run)
+lend-seats-meets : {M : Type 1} (𝓤 : URA M) (H : Heap 𝓤) (A : Atoms 𝓤) → Given 𝓤 H A → (mem : Memory → SProp 𝓤) (run : Routine → Fun 𝓤) (𝓣 : Tables 𝓤 H)
+    → Triple 𝓤 (𝓣 .C #class-step) (Stepped 𝓤 H A mem run)
     → Meets 𝓤 H A lend-seats.signature (WpFn 𝓤 H (𝓣 .C) (𝓣 .Λ) code.function) (lend-seats.spec 𝓤 H A mem run)
 lend-seats-meets 𝓤 H A W mem run 𝓣 known =
     walk-meets 𝓤 H A lend-seats.ended stayed W (

@@ -167,9 +167,14 @@ module _ {M : Type 1} (𝓤 : URA M) (H : Heap 𝓤) (A : Atoms 𝓤) (W : Given
   tend-walks C Λ fm known = walked 𝓤 H A tend.ended stayed (tend.clauses 𝓤 H A mem run) (WpFn 𝓤 H C Λ code.function)
       (λ κs. (ptr-vals, ((λ (x : Progress). machT x ∷ []), ((λ (x : Message). machH x ∷ []), (slice-vals, (slice-vals, tt))))))
       (λ κs. (mut-tells (named 0) (κs .0) R, (tells-machT, (tells-machH, (mut-slice-tells (named 1) (κs .1 .0) u8, (mut-slice-tells (named 2) (κs .1 .1 .0) u8, tt))))))
-      (λ κs qs bounds a g are. needs 𝓤 _ _
-      (walk 𝓤 H A W mem run (κs .0) (κs .1 .0) (κs .1 .1 .0) (qs .0) (qs .1 .0) (qs .1 .1 .0) (a .0 .ptr .0) (a .0 .ptr .1) (a .0 .name) (a .0 .now) (a .1 .0) (are .1 .0) (a .1 .1 .0) (are .1 .1 .0)
-      (a .1 .1 .1 .0 .ptr .0) (a .1 .1 .1 .0 .ptr .1) (a .1 .1 .1 .0 .name) (a .1 .1 .1 .0 .now) (a .1 .1 .1 .1 .0 .ptr .0) (a .1 .1 .1 .1 .0 .ptr .1) (a .1 .1 .1 .1 .0 .name) (a .1 .1 .1 .1 .0 .now)
+      (λ κs qs bounds a g are.
+      let m : RefT Module = a .0 in
+      let links : RefT (List ℕ) = a .1 .1 .1 .0 in
+      let lent : RefT (List ℕ) = a .1 .1 .1 .1 .0 in
+      needs 𝓤 _ _
+      (walk 𝓤 H A W mem run (κs .0) (κs .1 .0) (κs .1 .1 .0) (qs .0) (qs .1 .0) (qs .1 .1 .0)
+      (m .ptr .0) (m .ptr .1) (m .name) (m .now) (a .1 .0) (are .1 .0) (a .1 .1 .0) (are .1 .1 .0)
+      (links .ptr .0) (links .ptr .1) (links .name) (links .now) (lent .ptr .0) (lent .ptr .1) (lent .name) (lent .now)
       C Λ fm known (are .1 .1 .1 .0 .0 .1) (are .1 .1 .1 .1 .0 .0 .1)))
 
 tend-meets : {M : Type 1} (𝓤 : URA M) (H : Heap 𝓤) (A : Atoms 𝓤) → Given 𝓤 H A → (mem : Memory → SProp 𝓤) (run : Routine → Fun 𝓤) (𝓣 : Tables 𝓤 H) → Triple 𝓤 (𝓣 .C #turn) (Turned 𝓤 H A mem run)

@@ -10,7 +10,9 @@ use Rattle.class.proofs.turn.noted.Tie as tie
 
 goes-on : tie.Need-returns
 unfolding choose
-goes-on c = rw (lt-ltb _ _ (c .if1 .taken), c .before .before .before .before .with-name .ensures)
+goes-on c =
+    let named = c .before .before .before .before in
+    rw (lt-ltb _ _ (c .if1 .taken), named .with-name .ensures)
 
 last : tie.Need-returns-2
 unfolding choose

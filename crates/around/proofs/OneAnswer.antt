@@ -47,6 +47,7 @@ answering t p q =
       outcome = by-value _ _ _ (p .outcome) (q .outcome) i;
       length = by-value _ _ _ (p .sent) (q .sent) i;
       read = by-value _ _ _ (p .read) (q .read) i;
+      whom = by-value _ _ _ (p .whom) (q .whom) i;
     }
 
 telling-class : (t : ClassStep) → Only (λ (d : ClassCalled). ClassComes t (d .answer) (d .row) (d .links) (d .room))
@@ -77,7 +78,7 @@ heeding t s x y p q =
             number = by-value _ _ _ (p .number) (q .number) i;
             length = by-value _ _ _ (p .sent) (q .sent) i;
             read = by-value _ _ _ (p .read) (q .read) i;
-            place = by-value _ _ _ (p .place) (q .place) i;
+            whom = by-value _ _ _ (p .whom) (q .whom) i;
             next = by-value _ _ _ (p .next) (q .next) i;
           };
       links = by-value _ _ _ (p .memory) (q .memory) i;
@@ -111,6 +112,7 @@ each-once =
       basis-lay = λ _ _. by-value _;
       basis-min = λ _ _. by-value _;
       wire-read = λ _ _ _ _ p q. by-value _ _ _ (p .message) (q .message);
+      wire-hear = λ _. by-value _;
       wire-heard-as = λ _. by-value _;
       wire-is-extended = λ _. by-value _;
       wire-equals = λ _ _. by-value _;
@@ -153,11 +155,10 @@ each-once =
       device-step = λ _ _ _ _. stepping _;
       device-serve = λ _ _ _ _. stepping _;
       row-class-number = λ _. by-value _;
-      row-hear = λ _. by-value _;
       row-silent = λ _. by-value _;
       row-ended = λ _ _. by-value _;
-      row-open = λ _ _ _ _. by-value _;
-      row-noticed = λ _ _ _ _ _. by-value _;
+      row-open = λ _ _ _. by-value _;
+      row-noticed = λ _ _ _ _. by-value _;
       row-settle = λ _. by-value _;
       class-class-step = λ _ _ _ _. telling-class _;
       class-class-seats = λ _ _ _ _ _. telling-seats _;

@@ -13,7 +13,7 @@ use Rattle.wire.specs.declared.kind.MessageKind.{MessageKind}
 use Rattle.wire.specs.declared.kind.Message.{Message}
 use Rattle.wire.specs.Bytes.{equals, isExtended}
 use Rattle.wire.specs.Kinds.{heardAs}
-use Rattle.wire.specs.Reading.{ReadPromise}
+use Rattle.wire.specs.Reading.{heardIn, ReadPromise}
 use Rattle.links.specs.declared.memory.Link.{Link}
 use Rattle.links.specs.declared.search.Wanted.{Wanted}
 use Rattle.links.specs.declared.search.Found.{Found}
@@ -66,7 +66,6 @@ use Rattle.row.specs.declared.progress.ClassAnswer.{ClassAnswer}
 use Rattle.row.specs.declared.progress.Progress.{Progress}
 use Rattle.class.specs.declared.seats.SeatsAnswer.{SeatsAnswer}
 use Rattle.row.specs.Number.{classNumberOf}
-use Rattle.row.specs.Row.{heardIn}
 use Rattle.row.specs.Round.{silent, ended, opened, noticed, settledIfFew}
 use Rattle.class.specs.Class.{classOf, ClassComes}
 use Rattle.class.specs.Seats.{seatsOf, SeatsCome}
@@ -130,6 +129,7 @@ pub record EachOnce : Type 0 where
   pub basis-lay : (room bytes : List ℕ) → Only (λ (after : List ℕ). after ≡ laidIfFits room bytes)
   pub basis-min : (a b : ℕ) → Only (λ (r : ℕ). r ≡ min a b)
   pub wire-read : (s : List ℕ) (own : Address) → Only (ReadPromise s own)
+  pub wire-hear : (s : List ℕ) → Only (λ (r : Message). r ≡ heardIn s)
   pub wire-heard-as : (s : List ℕ) → Only (λ (r : MessageKind). r ≡ heardAs s)
   pub wire-is-extended : (s : List ℕ) → Only (λ (r : Bool). r ≡ isExtended s)
   pub wire-equals : (a b : Address) → Only (λ (r : Bool). r ≡ equals a b)
@@ -176,12 +176,10 @@ pub record EachOnce : Type 0 where
   pub device-serve : (m : Module) (l : List ℕ) (heard : Message) (room : List ℕ)
       → Only (λ (d : Called). Comes (stepBy m l heard room) (d .answer) (d .links) (d .room))
   pub row-class-number : (o : ClassOutcome) → Only (λ (r : ℕ). r ≡ classNumberOf o)
-  pub row-hear : (s : List ℕ) → Only (λ (r : Message). r ≡ heardIn s)
   pub row-silent : (o : ClassOutcome) → Only (λ (r : ClassAnswer). r ≡ silent o)
   pub row-ended : (t : Progress) (answer : ClassAnswer) → Only (λ (r : Progress). r ≡ ended t answer)
-  pub row-open : (n bytes : ℕ) (s : List ℕ) (heard : Message) → Only (λ (r : Progress). r ≡ opened n bytes s (heard .reading))
-  pub row-noticed : (names : List Address) (n bytes : ℕ) (s : List ℕ) (heard : Message)
-      → Only (λ (r : Progress). r ≡ noticed names n bytes s (heard .reading))
+  pub row-open : (n bytes : ℕ) (heard : Message) → Only (λ (r : Progress). r ≡ opened n bytes heard)
+  pub row-noticed : (names : List Address) (n bytes : ℕ) (heard : Message) → Only (λ (r : Progress). r ≡ noticed names n bytes heard)
   pub row-settle : (t : Progress) → Only (λ (r : Progress). r ≡ settledIfFew t)
   pub class-class-step : (row : List Module) (l s room : List ℕ)
       → Only (λ (d : ClassCalled). ClassComes (classOf row l s room) (d .answer) (d .row) (d .links) (d .room))

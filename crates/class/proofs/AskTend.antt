@@ -1,6 +1,8 @@
 -- What a walk needs to call `tend`, and what it has once `tend` has returned. All that it knows of `tend` is that it meets its contract.
---     Asked        the tokens of its three lifetimes, and what the module's reference and the two slices own.        goes       that, with the facts, is what `tend`'s contract asks
---     Got w        once it has returned w: the progress, the module and the lists as they are left, the facts, and the tokens.        answered       the contract's `post` gives it
+--     Asked        the tokens of its three lifetimes, and what the module's reference and the two slices own
+--     goes         that, with the facts, is what `tend`'s contract asks
+--     Got w        once it has returned w: the progress, the module and the lists as they are left, the facts, and the tokens
+--     answered     the contract's `post` gives it
 use mathlib.Core.Path.{_≡_}
 use Prim.Native.Nat.{ℕ}
 use mathlib.Core.List.{[], _∷_, List}
@@ -77,19 +79,30 @@ module _ {M : Type 1} (𝓤 : URA M) (H : Heap 𝓤) (A : Atoms 𝓤) (mem : Mem
     abbrev Ws : Type 0
     Ws = Lasts tend.ended (κ, (κl, (κr, tt))) args
 
+    -- the module and the lists at last
+    abbrev last-m : Ws → Module
+    last-m zs = zs .0
+
+    abbrev last-l : Ws → List ℕ
+    last-l zs = zs .1 .1 .1 .0
+
+    abbrev last-r : Ws → List ℕ
+    last-r zs = zs .1 .1 .1 .1 .0
+
     pub answered : Given 𝓤 H A → (w : Val) → ent 𝓤 (Tend .post to-tend w) (mean 𝓤 H A (Got w))
     answered W w =
         qed W (raw (Tend .post to-tend w) ∷ []) ∵ updating ! $
-        use1 W (later (some (λ (u : Progress). ((‵ (flft κ q) ⊛ (‵ (flft κl ql) ⊛ (‵ (flft κr qr) ⊛ ‵ ftrue))) ⊛ ‵ (Y.the-row .own u (w ∷ []))) ⊛ raw (ensured 𝓤 H A tend.ended (tend.clauses 𝓤 H A mem run) (κ, (κl, (κr, tt))) args tt u)))) (id⊢ 𝓤 _) $ await ! tt $ pick ! (λ u.
-        split ! $ move ! (1 ∷ []) $ use1 W (some (λ (zs : Ws). ‵ (lasts tend.ended (κ, (κl, (κr, tt))) args zs) ⊛ raw (fact 𝓤 (Said u (zs .0) (zs .1 .1 .1 .0) (zs .1 .1 .1 .1 .0))))) (id⊢ 𝓤 _) $ pick ! (λ zs.
-        split ! $ move ! (1 ∷ []) $ heard ! (Said u (zs .0) (zs .1 .1 .1 .0) (zs .1 .1 .1 .1 .0)) (λ e.
+        use1 W (later (some (λ (u : Progress). ((‵ (flft κ q) ⊛ (‵ (flft κl ql) ⊛ (‵ (flft κr qr) ⊛ ‵ ftrue))) ⊛ ‵ (Y.the-row .own u (w ∷ []))) ⊛ raw (ensured 𝓤 H A tend.ended (tend.clauses 𝓤 H A mem run)
+        (κ, (κl, (κr, tt))) args tt u)))) (id⊢ 𝓤 _) $ await ! tt $ pick ! (λ u.
+        split ! $ move ! (1 ∷ []) $ use1 W (some (λ (zs : Ws). ‵ (lasts tend.ended (κ, (κl, (κr, tt))) args zs) ⊛ raw (fact 𝓤 (Said u (last-m zs) (last-l zs) (last-r zs))))) (id⊢ 𝓤 _) $ pick ! (λ zs.
+        split ! $ move ! (1 ∷ []) $ heard ! (Said u (last-m zs) (last-l zs) (last-r zs)) (λ e.
         -- of what is said of the last values, the module's and the two lists'
         fsplit ! $ move ! (1 ∷ []) $ fsplit ! $ drop ! $ fsplit ! $ drop ! $ fsplit ! $ fsplit ! $ move ! (1 ∷ []) $ feqL ! (λ nl. move ! (1 ∷ []) $ fsplit ! $ fsplit ! $ move ! (1 ∷ []) $ feqL ! (λ nr.
         -- [room's last list; true; links'; the module's; the tokens and the progress]
         move ! (4 ∷ []) $ split ! $ split ! $ move ! (1 ∷ []) $ split ! $ move ! (1 ∷ []) $ split ! $ at-once ! $
         show ! (λ (v : Progress). ex 𝓤 (λ (y : Module). ex 𝓤 (λ (zl : List ℕ). ex 𝓤 (λ (zr : List ℕ). guard 𝓤 (Known v y zl zr) (sem 𝓤 H A (Had w v y zl zr)))))) u $
-        show ! (λ (y : Module). ex 𝓤 (λ (zl : List ℕ). ex 𝓤 (λ (zr : List ℕ). guard 𝓤 (Known u y zl zr) (sem 𝓤 H A (Had w u y zl zr))))) (zs .0) $
-        show ! (λ (zl : List ℕ). ex 𝓤 (λ (zr : List ℕ). guard 𝓤 (Known u (zs .0) zl zr) (sem 𝓤 H A (Had w u (zs .0) zl zr)))) (zs .1 .1 .1 .0) $
-        show ! (λ (zr : List ℕ). guard 𝓤 (Known u (zs .0) (zs .1 .1 .1 .0) zr) (sem 𝓤 H A (Had w u (zs .0) (zs .1 .1 .1 .0) zr))) (zs .1 .1 .1 .1 .0) $
+        show ! (λ (y : Module). ex 𝓤 (λ (zl : List ℕ). ex 𝓤 (λ (zr : List ℕ). guard 𝓤 (Known u y zl zr) (sem 𝓤 H A (Had w u y zl zr))))) (last-m zs) $
+        show ! (λ (zl : List ℕ). ex 𝓤 (λ (zr : List ℕ). guard 𝓤 (Known u (last-m zs) zl zr) (sem 𝓤 H A (Had w u (last-m zs) zl zr)))) (last-l zs) $
+        show ! (λ (zr : List ℕ). guard 𝓤 (Known u (last-m zs) (last-l zs) zr) (sem 𝓤 H A (Had w u (last-m zs) (last-l zs) zr))) (last-r zs) $
         -- [room's token; true; links'; the module's; the progress; room's last list; true; links'; the module's]
         check ! (e, (nl, nr)) $ keep ! (3 ∷ 2 ∷ 0 ∷ 4 ∷ 8 ∷ 7 ∷ 5 ∷ []) $ done !)))))

@@ -1,6 +1,8 @@
 -- What a walk needs to call `turn`, and what it has once `turn` has returned. All that it knows of `turn` is that it meets its contract.
---     Asked        the tokens of its two lifetimes, and what its two slices own.        goes       that, with the facts, is what `turn`'s contract asks
---     Got w        once it has returned w: the answer, the last lists of links and room, the facts, and the tokens.        answered       the contract's `post` gives it
+--     Asked        the tokens of its two lifetimes, and what its two slices own
+--     goes         that, with the facts, is what `turn`'s contract asks
+--     Got w        once it has returned w: the answer, the last lists of links and room, the facts, and the tokens
+--     answered     the contract's `post` gives it
 use mathlib.Core.Path.{_≡_}
 use Prim.Native.Nat.{ℕ}
 use mathlib.Core.List.{[], _∷_, List}
@@ -82,18 +84,26 @@ module _ {M : Type 1} (𝓤 : URA M) (H : Heap 𝓤) (A : Atoms 𝓤) (mem : Mem
     abbrev Ws : Type 0
     Ws = Lasts turn.ended (κl, (κr, tt)) args
 
+    -- the last lists
+    abbrev last-l : Ws → List ℕ
+    last-l zs = zs .1 .1 .1 .0
+
+    abbrev last-r : Ws → List ℕ
+    last-r zs = zs .1 .1 .1 .1 .0
+
     pub answered : Given 𝓤 H A → (w : Val) → ent 𝓤 (Turned .post to-turn w) (mean 𝓤 H A (Got w))
     answered W w =
         qed W (raw (Turned .post to-turn w) ∷ []) ∵ updating ! $
-        use1 W (later (some (λ (r : Tended). ((‵ (flft κl ql) ⊛ (‵ (flft κr qr) ⊛ ‵ ftrue)) ⊛ ‵ (N.the-row .own r (w ∷ []))) ⊛ raw (ensured 𝓤 H A turn.ended (turn.clauses 𝓤 H A mem run) (κl, (κr, tt)) args tt r)))) (id⊢ 𝓤 _) $ await ! tt $ pick ! (λ r.
-        split ! $ move ! (1 ∷ []) $ use1 W (some (λ (zs : Ws). ‵ (lasts turn.ended (κl, (κr, tt)) args zs) ⊛ raw (fact 𝓤 (Said r (zs .1 .1 .1 .0) (zs .1 .1 .1 .1 .0))))) (id⊢ 𝓤 _) $ pick ! (λ zs.
-        split ! $ move ! (1 ∷ []) $ heard ! (Said r (zs .1 .1 .1 .0) (zs .1 .1 .1 .1 .0)) (λ e.
+        use1 W (later (some (λ (r : Tended). ((‵ (flft κl ql) ⊛ (‵ (flft κr qr) ⊛ ‵ ftrue)) ⊛ ‵ (N.the-row .own r (w ∷ []))) ⊛ raw (ensured 𝓤 H A turn.ended (turn.clauses 𝓤 H A mem run)
+        (κl, (κr, tt)) args tt r)))) (id⊢ 𝓤 _) $ await ! tt $ pick ! (λ r.
+        split ! $ move ! (1 ∷ []) $ use1 W (some (λ (zs : Ws). ‵ (lasts turn.ended (κl, (κr, tt)) args zs) ⊛ raw (fact 𝓤 (Said r (last-l zs) (last-r zs))))) (id⊢ 𝓤 _) $ pick ! (λ zs.
+        split ! $ move ! (1 ∷ []) $ heard ! (Said r (last-l zs) (last-r zs)) (λ e.
         -- of what is said of the last values, the two lists'
         fsplit ! $ drop ! $ fsplit ! $ drop ! $ fsplit ! $ drop ! $ fsplit ! $ fsplit ! $ move ! (1 ∷ []) $ feqL ! (λ el. move ! (1 ∷ []) $ fsplit ! $ fsplit ! $ move ! (1 ∷ []) $ feqL ! (λ er.
         -- [room's last list; true; links'; the tokens and the answer]
         move ! (3 ∷ []) $ split ! $ split ! $ move ! (1 ∷ []) $ split ! $ at-once ! $
         show ! (λ (s : Tended). ex 𝓤 (λ (zl : List ℕ). ex 𝓤 (λ (zr : List ℕ). guard 𝓤 (Known s zl zr) (sem 𝓤 H A (Had w s zl zr))))) r $
-        show ! (λ (zl : List ℕ). ex 𝓤 (λ (zr : List ℕ). guard 𝓤 (Known r zl zr) (sem 𝓤 H A (Had w r zl zr)))) (zs .1 .1 .1 .0) $
-        show ! (λ (zr : List ℕ). guard 𝓤 (Known r (zs .1 .1 .1 .0) zr) (sem 𝓤 H A (Had w r (zs .1 .1 .1 .0) zr))) (zs .1 .1 .1 .1 .0) $
+        show ! (λ (zl : List ℕ). ex 𝓤 (λ (zr : List ℕ). guard 𝓤 (Known r zl zr) (sem 𝓤 H A (Had w r zl zr)))) (last-l zs) $
+        show ! (λ (zr : List ℕ). guard 𝓤 (Known r (last-l zs) zr) (sem 𝓤 H A (Had w r (last-l zs) zr))) (last-r zs) $
         -- [room's token; true; links'; the answer; room's last list; true; links']
         check ! (e, (el, er)) $ keep ! (2 ∷ 0 ∷ 3 ∷ 6 ∷ 4 ∷ []) $ done !)))))

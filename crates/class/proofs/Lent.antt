@@ -15,6 +15,7 @@ use Rattle.device.specs.Run.{State, Said}
 use Rattle.device.proofs.Lent.{room-alike, room-kept}
 use Rattle.device.proofs.Replied.{replied}
 use Rattle.row.specs.declared.outcome.ClassOutcome.{ClassOutcome}
+use Rattle.row.specs.declared.progress.Whom.{Whom}
 use Rattle.class.specs.Seat.{seatAt, shareAt, withShare}
 use Rattle.class.specs.Class.{ClassStep, refusedBy, servedAt, Heard, heardAt, heardFrom, broadcastTo, classOf}
 
@@ -23,11 +24,12 @@ pub record ClassSaid : Type 0 where
   pub outcome : ClassOutcome
   pub reply : List ℕ
   pub read : ℕ
+  pub whom : Whom
   pub row : List Module
   pub links : List ℕ
 
 abbrev pub classSaid : ClassStep → ClassSaid
-classSaid t = record { outcome = t .outcome; reply = t .reply; read = t .read; row = t .row; links = t .links }
+classSaid t = record { outcome = t .outcome; reply = t .reply; read = t .read; whom = t .whom; row = t .row; links = t .links }
 
 -- seat i's module and share
 abbrev own : ℕ → List Module → List ℕ → ℕ → State
@@ -78,7 +80,14 @@ module _ (w : ℕ) (s : List ℕ) where
 -- ---- the class
 abbrev fromWay : Way → ClassSaid
 fromWay y =
-    record { outcome = ClassOutcome.Single (choose (y .acted) Outcome.Done Outcome.Unconcerned); reply = []; read = y .read; row = y .row; links = y .links }
+    record {
+      outcome = ClassOutcome.Single (choose (y .acted) Outcome.Done Outcome.Unconcerned);
+      reply = [];
+      read = y .read;
+      whom = Whom.All;
+      row = y .row;
+      links = y .links;
+    }
 
 abbrev fromSeat : ℕ → List Module → List ℕ → ℕ → Said → ClassSaid
 fromSeat w row l i t =
@@ -86,6 +95,7 @@ fromSeat w row l i t =
       outcome = ClassOutcome.Single (t .outcome);
       reply = t .reply;
       read = t .read;
+      whom = Whom.Seat i;
       row = set row i (t .left .device);
       links = withShare w i (t .left .links) l;
     }

@@ -13,23 +13,25 @@ use Rattle.results.specs.Number.{numberOf}
 use Rattle.module.specs.declared.state.Module.{Module}
 use Rattle.device.specs.Step.{Step, stepOf}
 use Rattle.row.specs.declared.outcome.ClassOutcome.{ClassOutcome}
+use Rattle.row.specs.declared.progress.Whom.{Whom}
 use Rattle.row.specs.declared.progress.ClassAnswer.{ClassAnswer}
 use Rattle.row.specs.Number.{classNumberOf}
 use Rattle.row.specs.Row.{isRowFit, seatNamed, isDoubled}
 use Rattle.class.specs.Seat.{seatAt, nameAt, shareAt, withShare}
 
--- all that comes out of a call
+-- all that comes out of a call; whom it was for is as far as it was served
 pub record ClassStep : Type 0 where
   pub outcome : ClassOutcome
   pub reply : List ℕ
   pub read : ℕ
+  pub whom : Whom
   pub row : List Module
   pub links : List ℕ
   pub room : List ℕ
 
--- nothing is sent and nothing altered
+-- nothing is sent and nothing altered: it was for nobody
 abbrev pub refusedBy : ClassOutcome → List Module → List ℕ → List ℕ → ClassStep
-refusedBy outcome row l room = record { outcome = outcome; reply = []; read = 0; row = row; links = l; room = room }
+refusedBy outcome row l room = record { outcome = outcome; reply = []; read = 0; whom = Whom.Nobody; row = row; links = l; room = room }
 
 -- what seat i makes of a message, with its own share of w bytes
 abbrev pub seatStep : ℕ → List Module → List ℕ → List ℕ → List ℕ → ℕ → Step
@@ -43,6 +45,7 @@ servedAt w row l s room i =
       outcome = ClassOutcome.Single (t .outcome);
       reply = t .reply;
       read = t .read;
+      whom = Whom.Seat i;
       row = set row i (t .next);
       links = withShare w i (t .links) l;
       room = t .room;
@@ -84,6 +87,7 @@ offeredTo x =
       outcome = ClassOutcome.Single (choose (x .acted) Outcome.Done Outcome.Unconcerned);
       reply = [];
       read = x .read;
+      whom = Whom.All;
       row = x .row;
       links = x .links;
       room = x .room;
@@ -111,6 +115,7 @@ pub record ClassComes (t : ClassStep) (answer : ClassAnswer) (row : List Module)
   pub outcome : answer .outcome ≡ t .outcome
   pub sent : answer .length ≡ length (t .reply)
   pub read : answer .read ≡ t .read
+  pub whom : answer .whom ≡ t .whom
   pub seats : row ≡ t .row
   pub memory : links ≡ t .links
   pub room-after : room ≡ t .room

@@ -4,9 +4,9 @@ use mathlib.Core.Bool.{false}
 use mathlib.Core.List.{List, _++_}
 use lib.ListN.{getD, take, drop}
 use Rattle.wire.specs.declared.address.Address.{Address}
+use Rattle.wire.specs.Bytes.{noName}
 use Rattle.load.specs.declared.state.Load.{Load}
 use Rattle.module.specs.declared.state.Module.{Module}
-use Rattle.row.specs.Row.{noName}
 
 -- what stands past the row's end
 abbrev pub nobody : Module

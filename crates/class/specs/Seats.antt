@@ -13,7 +13,15 @@ use Rattle.class.specs.Class.{ClassStep, refusedBy, classOf, ClassComes}
 abbrev pub firstOf : List Module → ℕ → List ℕ → List ℕ → List ℕ → ClassStep
 firstOf seats n l s room =
     let t : ClassStep = classOf (take n seats) l s room in
-    record { outcome = t .outcome; reply = t .reply; read = t .read; row = t .row ++ drop n seats; links = t .links; room = t .room }
+    record {
+      outcome = t .outcome;
+      reply = t .reply;
+      read = t .read;
+      whom = t .whom;
+      row = t .row ++ drop n seats;
+      links = t .links;
+      room = t .room;
+    }
 
 -- more seats than there are places: result 11
 abbrev pub seatsOf : List Module → ℕ → List ℕ → List ℕ → List ℕ → ClassStep

@@ -1,11 +1,11 @@
 // A message to the class.
 use crate::turn::turn;
 use module::state::Module;
-use row::open::hear;
 use row::open::open;
 use row::progress::ClassAnswer;
 use row::progress::Progress;
 use wire::kind::Message;
+use wire::read::hear;
 ghost use lib.ListN.{length};
 ghost use Rattle.class.specs.Turns.{turnOf, Ready, Took};
 ghost use Rattle.class.specs.Class.{classOf, ClassComes};
@@ -23,7 +23,7 @@ pub fn class_step(
         ⌝ }
 {
     let heard = hear(message);
-    let mut t = open(row.len(), links.len(), message, heard);
+    let mut t = open(row.len(), links.len(), heard);
     while t.seat < row.len() {
         t = tend(&mut row[t.seat], t, heard, links, room);
     }
@@ -39,7 +39,10 @@ pub(crate) fn tend(
     room: &mut [u8],
 ) -> Progress
     requires { ⌜ Ready t (length (now links)) ⌝ }
-    ensures { λ r. ⌜ Took (turnOf (now (m .entry)) t heard (now (links .entry)) (now (room .entry))) r (now (m .exit)) (now (links .exit)) (now (room .exit)) ⌝ }
+    ensures { λ r. ⌜
+        Took (turnOf (now (m .entry)) t heard (now (links .entry)) (now (room .entry)))
+        r (now (m .exit)) (now (links .exit)) (now (room .exit))
+        ⌝ }
 {
     let a = turn(*m, t, heard, links, room);
     *m = a.next;

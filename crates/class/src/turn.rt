@@ -1,4 +1,5 @@
 // One seat's turn. What a seat is offered is the reading, and of link memory its own share.
+use device::step::Answer;
 use device::step::serve;
 use module::state::Module;
 use results::Outcome;
@@ -6,6 +7,8 @@ use results::number;
 use row::outcome::ClassOutcome;
 use row::progress::ClassAnswer;
 use row::progress::Progress;
+use row::progress::Round;
+use row::progress::Whom;
 use row::progress::ended;
 use row::settle::settle;
 use wire::address::Address;
@@ -13,14 +16,16 @@ use wire::kind::Message;
 ghost use mathlib.Core.Path.{_≡_};
 ghost use Prim.Native.Nat.{_+_, _≤_, _<_};
 ghost use lib.ListN.{length, set};
-ghost use Rattle.class.specs.Turns.{noted, joined, offered, served, turnOf, serveTurn, Ready, Took};
+ghost use Rattle.device.specs.Step.{Comes};
+ghost use Rattle.class.specs.Turns.{note, noted, joined, offered, served, stepIn, turnOf, Ready, Took};
 
-// The row's progress, and the module afterwards.
+// The module afterwards, and the row's progress.
 pub struct Tended {
-    pub progress: Progress,
     pub next: Module,
+    pub progress: Progress,
 }
 
+// The round tells what the turn is for: all that a row does is decided here, and the walk along it does not look.
 pub(crate) fn turn(
     m: Module,
     t: Progress,
@@ -29,21 +34,34 @@ pub(crate) fn turn(
     room: &mut [u8],
 ) -> Tended
     requires { ⌜ Ready t (length (now links)) ⌝ }
-    ensures { λ r. ⌜ Took (turnOf m t heard (now (links .entry)) (now (room .entry))) (r .progress) (r .next) (now (links .exit)) (now (room .exit)) ⌝ }
+    ensures { λ r. ⌜
+        Took (turnOf m t heard (now (links .entry)) (now (room .entry)))
+        (r .progress) (r .next) (now (links .exit)) (now (room .exit))
+        ⌝ }
 {
-    if t.serving {
-        return serve_seat(m, t, heard, links, room);
+    let round = t.round;
+    match round {
+        Round::Note => note(m, t),
+        Round::One => served(t, step_in(m, t, heard, links, room)),
+        Round::All => offered(t, step_in(m, t, heard, links, room)),
     }
+}
+
+// The module stays as it was read.
+fn note(m: Module, t: Progress) -> Tended
+    requires { ⌜ (t .seat < t .task .seats) × (t .task .seats ≤ 16) ⌝ }
+    ensures { λ r. ⌜ r ≡ note m t ⌝ }
+{
     let identity = m.identity;
     Tended {
-        progress: noted(t, identity.address),
         next: m,
+        progress: noted(t, identity.address),
     }
 }
 
 // With the last address it is known who is to be served.
 fn noted(t: Progress, a: Address) -> Progress
-    requires { ⌜ (t .seat < t .seats) × (t .seats ≤ 16) ⌝ }
+    requires { ⌜ (t .seat < t .task .seats) × (t .task .seats ≤ 16) ⌝ }
     ensures { λ r. ⌜ r ≡ noted t a ⌝ }
 {
     let next = t.seat + 1;
@@ -54,7 +72,7 @@ fn noted(t: Progress, a: Address) -> Progress
         names: more,
         ..t
     };
-    if next < t.seats {
+    if next < t.task.seats {
         return after;
     }
     settle(after)
@@ -69,52 +87,58 @@ fn with_name(names: [Address; 16], seat: usize, a: Address) -> [Address; 16]
     noted
 }
 
-fn serve_seat(m: Module, t: Progress, heard: Message, links: &mut [u8], room: &mut [u8]) -> Tended
+// The seat's own step, with its own share.
+fn step_in(m: Module, t: Progress, heard: Message, links: &mut [u8], room: &mut [u8]) -> Answer
     requires { ⌜ Ready t (length (now links)) ⌝ }
-    ensures { λ r. ⌜ Took (serveTurn m t heard (now (links .entry)) (now (room .entry))) (r .progress) (r .next) (now (links .exit)) (now (room .exit)) ⌝ }
+    ensures { λ r. ⌜
+        Comes (stepIn m t heard (now (links .entry)) (now (room .entry))) r (now (links .exit)) (now (room .exit))
+        ⌝ }
 {
-    let from = t.seat * t.share;
-    let end = from + t.share;
-    let a = serve(m, &mut links[from..end], heard, room);
-    let outcome = a.outcome;
-    let next = a.next;
-    Tended {
-        progress: served(t, outcome, a.length, a.read),
-        next: next,
-    }
+    let from = t.seat * t.task.share;
+    let end = from + t.task.share;
+    serve(m, &mut links[from..end], heard, room)
 }
 
-fn served(t: Progress, outcome: Outcome, length: usize, read: usize) -> Progress
-    requires { ⌜ (t .seat < 16) × (t .answer .read ≤ 4096) × (read ≤ 256) ⌝ }
-    ensures { λ r. ⌜ r ≡ served t outcome length read ⌝ }
+// No other seat has a turn.
+fn served(t: Progress, a: Answer) -> Tended
+    ensures { λ r. ⌜ r ≡ served t a ⌝ }
 {
-    if t.all {
-        return offered(t, outcome, read);
-    }
+    let outcome = a.outcome;
+    let next = a.next;
     let answer = ClassAnswer {
         outcome: ClassOutcome::Single(outcome),
-        length: length,
-        read: read,
+        length: a.length,
+        read: a.read,
+        whom: Whom::Seat(t.seat),
     };
-    ended(t, answer)
+    Tended {
+        next: next,
+        progress: ended(t, answer),
+    }
 }
 
 // A broadcast is offered to the next seat too.
-fn offered(t: Progress, outcome: Outcome, read: usize) -> Progress
-    requires { ⌜ (t .seat < 16) × (t .answer .read ≤ 4096) × (read ≤ 256) ⌝ }
-    ensures { λ r. ⌜ r ≡ offered t outcome read ⌝ }
+fn offered(t: Progress, a: Answer) -> Tended
+    requires { ⌜ (t .seat < 16) × (t .answer .read ≤ 4096) × (a .read ≤ 256) ⌝ }
+    ensures { λ r. ⌜ r ≡ offered t a ⌝ }
 {
     let before = t.answer;
     let so_far = before.outcome;
+    let outcome = a.outcome;
+    let next = a.next;
     let answer = ClassAnswer {
         outcome: joined(so_far, outcome),
         length: 0,
-        read: before.read + read,
+        read: before.read + a.read,
+        ..before
     };
-    Progress {
-        seat: t.seat + 1,
-        answer: answer,
-        ..t
+    Tended {
+        next: next,
+        progress: Progress {
+            seat: t.seat + 1,
+            answer: answer,
+            ..t
+        },
     }
 }
 

@@ -14,7 +14,7 @@ use Rattle.modem.specs.Stream.{Cut, cut, callIn, callsIn}
 use Rattle.modem.proofs.Cut.{waiting, whole-first, short, in-pieces}
 use Rattle.desk.specs.declared.answer.Desk.{Desk}
 use Rattle.desk.specs.Desk.{satAt, Answered}
-use Rattle.desk.specs.Tally.{countedAt, counted, countedAll}
+use Rattle.desk.specs.Tally.{placeOf, countedAt, counted, countedAll}
 use Rattle.desk.specs.Passed.{Passed, Unfinished, ArrivedPromise}
 use Rattle.desk.proofs.Ahead.{Next, Rest}
 
@@ -45,7 +45,7 @@ module _ (room room' : List ℕ) (e : length room ≡ length room') where
   count-alike st tally [] = refl
   count-alike st tally (f ∷ frames) =
       count-alike (satBy st (heedIn st (callIn room f))) (counted tally (heedIn st (callIn room f))) frames
-      ∙ (λ i. countedAll (countedAt (countedAt tally (alike st f i .number)) (12 + alike st f i .place)) (heedAll (left-alike st f i) (callsIn room' frames)))
+      ∙ (λ i. countedAll (countedAt (countedAt tally (alike st f i .number)) (12 + placeOf (alike st f i .whom))) (heedAll (left-alike st f i) (callsIn room' frames)))
 
 -- nothing is done yet, with the desk open or closed
 pub still : (desk after : Desk) (l room s : List ℕ) → satAt after l ≡ satAt desk l → after .tally ≡ desk .tally → Passed desk l room s after l s

@@ -5,6 +5,7 @@ use lines::counts::put_counts;
 use lines::told::put_told;
 use modem::serve::CRAMPED;
 use modem::serve::serve;
+use row::progress::Whom;
 use seating::heed::Heeded;
 use seating::heed::Seating;
 use text::line::Tally;
@@ -12,7 +13,7 @@ ghost use mathlib.Core.Path.{_≡_};
 ghost use Prim.Native.Nat.{_+_};
 ghost use Rattle.io.specs.Counts.{Counts};
 ghost use Rattle.modem.specs.Frames.{framed};
-ghost use Rattle.desk.specs.Tally.{countedAt};
+ghost use Rattle.desk.specs.Tally.{placeOf, countedAt};
 ghost use Rattle.desk.specs.Desk.{freshDesk, closedOf, AnswerPromise, Handed};
 
 // Who sits there, how many frames had each result and were for each seat, and whether more frames are served.
@@ -70,7 +71,7 @@ fn answered(desk: Desk, h: Heeded, is_told: bool) -> Desk
     ensures { λ r. ⌜
         r ≡ record {
           seating = h .next;
-          tally = countedAt (countedAt (desk .tally) (h .number)) (12 + h .place);
+          tally = countedAt (countedAt (desk .tally) (h .number)) (12 + placeOf (h .whom));
           «is_open» = «is_told»;
         }
         ⌝ }
@@ -78,7 +79,8 @@ fn answered(desk: Desk, h: Heeded, is_told: bool) -> Desk
     let seating = h.next;
     let before = desk.tally;
     let by_result = counted(before, h.number as usize);
-    let tally = counted_for(by_result, h.place);
+    let whom = h.whom;
+    let tally = counted_for(by_result, place_of(whom));
     Desk {
         seating: seating,
         tally: tally,
@@ -94,6 +96,17 @@ fn counted(tally: Tally, i: usize) -> Tally
         counted[i] = std::num::wrapping_add_u64(counted[i], 1);
     }
     counted
+}
+
+// A class has sixteen places: 16 is for every seat, 17 for nobody.
+fn place_of(whom: Whom) -> usize
+    ensures { λ r. ⌜ r ≡ placeOf whom ⌝ }
+{
+    match whom {
+        Whom::Seat(i) => i,
+        Whom::All => 16,
+        Whom::Nobody => 17,
+    }
 }
 
 // Behind the twelve results there is a count for each seat, one for every seat, and one for nobody.

@@ -8,9 +8,10 @@ use lib.ListN.{length, getD, take}
 use lib.Seq.{getD-take}
 use Rattle.wire.specs.declared.address.Address.{Address}
 use Rattle.wire.specs.declared.kind.Message.{Message}
+use Rattle.wire.specs.Bytes.{noName}
+use Rattle.wire.specs.Reading.{heardIn}
 use Rattle.module.specs.declared.state.Module.{Module}
 use Rattle.row.specs.declared.progress.Progress.{Progress}
-use Rattle.row.specs.Row.{noName, heardIn}
 use Rattle.class.specs.Seat.{nameAt}
 use Rattle.class.specs.Class.{ClassStep, classOf}
 use Rattle.row.specs.Round.{nameIn, noticed}
@@ -46,24 +47,24 @@ module _ (names : List Address) (count : ℕ) (images l s room : List ℕ) (is-r
   abbrev At : Message → Progress → Type 0
   At heard t = Standing target heard (length l) count t images images l room (t .seat) (t .answer)
 
-  base : At (heardIn s) (noticed names count (length l) s (heardIn s .reading))
+  base : At (heardIn s) (noticed names count (length l) (heardIn s))
   base =
       let all = row-images count images is-row in
       let many = row-count count images in
       let g = notices row l s room names (agree names count row many named) in
-      let d = due names count (length l) s (heardIn s .reading) in
+      let d = due names count (length l) (heardIn s) in
       record {
         row = row;
         many = many;
         fit = row-fits count images all;
         held = sym (row-stays count images all);
         left = g .left;
-        runs = subst (λ (n : ℕ). Runs target (heardIn s) (length l) (g .left) row (noticed names n (length l) s (heardIn s .reading)) l room) many (g .runs);
+        runs = subst (λ (n : ℕ). Runs target (heardIn s) (length l) (g .left) row (noticed names n (length l) (heardIn s)) l room) many (g .runs);
         seats = d .seats;
         serves = d .serves;
       }
 
-  pub starts : (heard : Message) (t : Progress) → heard ≡ heardIn s → t ≡ noticed names count (length l) s (heard .reading) → At heard t
+  pub starts : (heard : Message) (t : Progress) → heard ≡ heardIn s → t ≡ noticed names count (length l) heard → At heard t
   starts heard t h e =
       subst (At heard) (sym e)
-      (subst (λ (x : Message). At x (noticed names count (length l) s (x .reading))) (sym h) base)
+      (subst (λ (x : Message). At x (noticed names count (length l) x)) (sym h) base)

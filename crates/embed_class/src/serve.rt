@@ -5,12 +5,14 @@ use image::held::held_in;
 use image::places::LENGTH;
 use image::store::store;
 use results::Outcome;
-use row::open::hear;
 use row::outcome::ClassOutcome;
 use row::outcome::class_number;
 use row::progress::ClassAnswer;
+use row::progress::Round;
+use row::progress::Whom;
 use row::settle::noticed;
 use wire::kind::Message;
+use wire::read::hear;
 ghost use mathlib.Core.Path.{_≡_};
 ghost use mathlib.Core.Bool.{true};
 ghost use Prim.Native.Nat.{_+_, _*_, _≤_};
@@ -18,7 +20,7 @@ ghost use lib.ListN.{length};
 ghost use Rattle.class.specs.Class.{classOf};
 ghost use Rattle.image.specs.Places.{LENGTH};
 ghost use Rattle.embed_class.specs.Row.{isRow, rowOf};
-ghost use Rattle.embed_class.specs.Serve.{joinedBy, withSeat, SeatComes, RowComes};
+ghost use Rattle.embed_class.specs.Serve.{isForAll, joinedBy, withSeat, SeatComes, RowComes};
 
 pub(crate) fn serve_row(
     images: &mut [u8],
@@ -37,12 +39,14 @@ pub(crate) fn serve_row(
 {
     let names = names_of(images, count);
     let heard = hear(message);
-    let t = noticed(names, count, links.len(), message, heard);
+    let t = noticed(names, count, links.len(), heard);
+    let round = t.round;
+    let all = is_for_all(round);
     let mut answer = t.answer;
     let mut seat = t.seat;
     while seat < count {
-        let own = serve_seat(images, seat, t.share, links, heard, room);
-        if t.all {
+        let own = serve_seat(images, seat, t.task.share, links, heard, room);
+        if all {
             answer = with_seat(answer, own);
             seat += 1;
         } else {
@@ -51,6 +55,16 @@ pub(crate) fn serve_row(
         }
     }
     answer
+}
+
+fn is_for_all(round: Round) -> bool
+    ensures { λ r. ⌜ r ≡ isForAll round ⌝ }
+{
+    match round {
+        Round::Note => false,
+        Round::One => false,
+        Round::All => true,
+    }
 }
 
 // A broadcast is carried out where any seat acted, and the records read are those of all.
@@ -64,6 +78,7 @@ fn with_seat(before: ClassAnswer, own: ClassAnswer) -> ClassAnswer
         outcome: joined(so_far, outcome),
         length: 0,
         read: before.read + own.read,
+        ..before
     }
 }
 
@@ -106,5 +121,6 @@ fn serve_seat(
         outcome: ClassOutcome::Single(outcome),
         length: a.length,
         read: a.read,
+        whom: Whom::Seat(seat),
     }
 }

@@ -43,7 +43,7 @@ module _ (s : Seating) (l message room : List ℕ) (r : Heeded) (links after : L
   fits = rw taken (heed-replied s l message room .fits)
 
   pub told : r ≡ heededOf s (heedOf s l message room)
-  told i = record { number = p .number i; length = p .sent i; read = p .read i; place = p .place i; next = p .next i }
+  told i = record { number = p .number i; length = p .sent i; read = p .read i; whom = p .whom i; next = p .next i }
 
 module _ (s : Seating) (l frame room out : List ℕ) where
   -- the promise is kept by what the turn is

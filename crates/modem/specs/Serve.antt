@@ -7,6 +7,7 @@ use lib.Dec.{ltb}
 use lib.ListN.{length, drop}
 use Rattle.basis.specs.Choice.{choose}
 use Rattle.basis.specs.Laid.{laid}
+use Rattle.row.specs.declared.progress.Whom.{Whom}
 use Rattle.seating.specs.declared.heed.Seating.{Seating}
 use Rattle.seating.specs.declared.heed.Heeded.{Heeded}
 use Rattle.seating.specs.Heed.{Heed, seatedWith, heedOf}
@@ -21,7 +22,7 @@ pub record Turn : Type 0 where
   pub out : List ℕ
 
 abbrev pub heededOf : Seating → Heed → Heeded
-heededOf s t = record { number = t .number; length = length (t .reply); read = t .read; place = t .place; next = seatedWith s (t .row) }
+heededOf s t = record { number = t .number; length = length (t .reply); read = t .read; whom = t .whom; next = seatedWith s (t .row) }
 
 -- the message behind the two bytes of its frame is heeded, and the reply goes out in frames
 abbrev pub doneOf : Seating → List ℕ → Heed → Turn
@@ -39,7 +40,7 @@ ample room out = ltb (2 * length room) (length out)
 
 -- else no frame is served, and the number is none of the paper's
 abbrev pub crampedOf : Seating → Served
-crampedOf s = record { heeded = record { number = 255; length = 0; read = 0; place = 0; next = s }; sent = 0 }
+crampedOf s = record { heeded = record { number = 255; length = 0; read = 0; whom = Whom.Nobody; next = s }; sent = 0 }
 
 unfoldable pub turnOf : Seating → List ℕ → List ℕ → List ℕ → List ℕ → Turn
 turnOf s l frame room out =

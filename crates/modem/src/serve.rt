@@ -1,6 +1,7 @@
 // One whole frame to whoever sits there: frame in, seats and link memory on, frames out ("The program").
 use crate::frames::put_frames;
 use basis::min;
+use row::progress::Whom;
 use seating::heed::Heeded;
 use seating::heed::Seating;
 use seating::heed::heed;
@@ -42,7 +43,7 @@ fn cramped(s: Seating) -> Served
         number: CRAMPED,
         length: 0,
         read: 0,
-        place: 0,
+        whom: Whom::Nobody,
         next: s,
     };
     Served {

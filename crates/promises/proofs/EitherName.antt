@@ -17,7 +17,7 @@ use Rattle.wire.specs.declared.command.Command.{Command}
 use Rattle.wire.specs.declared.kind.MessageKind.{MessageKind}
 use Rattle.wire.specs.declared.kind.Reading.{Reading}
 use Rattle.wire.specs.declared.kind.Message.{Message}
-use Rattle.wire.specs.Bytes.{toOf, command1Of, requestOf, dataAt, dataOf, dataIn, isExtended, isWhole, equals}
+use Rattle.wire.specs.Bytes.{toOf, namedIn, command1Of, requestOf, dataAt, dataOf, dataIn, isExtended, isWhole, equals}
 use Rattle.wire.specs.Commands.{extendeds}
 use Rattle.wire.specs.Kinds.{isDirect, isCleanup, isBroadcast, isForeign, kindOf}
 use Rattle.wire.specs.Checksum.{sumOf, isSumRight, isExempt, isSumWrong}
@@ -80,8 +80,8 @@ fits s c (checked z) =
 -- a whole extended direct message with Command 1 = 2F and no wrong sum is heard as a database command, unless it is for another module
 as-database-read : (u : List ℕ) (own : Address) → isWhole u ≡ true → isExtended u ≡ true → isDirect u ≡ true → command1Of u ≡ 0x2f → isSumWrong u ≡ false
     → readOf u own
-    ≡ choose (isForeign u own) (bare (Reading.Heard MessageKind.Foreign))
-    (record { reading = Reading.Heard (MessageKind.Direct (requestOf u) database); «data» = dataOf u })
+    ≡ choose (isForeign u own) (bare (namedIn u) (Reading.Heard MessageKind.Foreign))
+    (record { to = namedIn u; reading = Reading.Heard (MessageKind.Direct (requestOf u) database); «data» = dataOf u })
 unfolding readOf choose kindOf extendeds
 as-database-read u own whole p v c sum =
     let kind : kindOf u ≡ MessageKind.Direct (requestOf u) database = rw (v, p, c) in
@@ -148,7 +148,7 @@ module _ (m : Module) (l room h r : List ℕ) (x y : ℕ) where
 
   -- so the ruling is one, and what comes of it too
   abbrev heardAs : List ℕ → Message
-  heardAs bytes = record { reading = Reading.Heard (MessageKind.Direct q database); «data» = bytes }
+  heardAs bytes = record { to = namedIn s; reading = Reading.Heard (MessageKind.Direct q database); «data» = bytes }
 
   ruling-alike : rulingBy m l (heardAs d) ≡ rulingBy m l (heardAs e)
   unfolding rulingBy directPlan

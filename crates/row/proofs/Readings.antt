@@ -8,12 +8,11 @@ use borrow.Author.Tests.{eqb-true, not-false, le-ltb}
 use Rattle.basis.specs.Choice.{choose}
 use Rattle.basis.proofs.Tests.{clash, neither}
 use Rattle.wire.specs.declared.address.Address.{Address}
-use Rattle.wire.specs.Bytes.{toOf, isExtended, isWhole}
+use Rattle.wire.specs.Bytes.{toOf, namedIn, isExtended, isWhole}
 use Rattle.wire.specs.Kinds.{typeOf, isDirect, isCleanup, isBroadcast, isUnheard, isAstray, isForeign}
 use Rattle.wire.specs.Checksum.{isSumRight, isExempt, isSumWrong}
 use Rattle.wire.specs.Reading.{readOf}
 use Rattle.wire.proofs.Whole.{enough}
-use Rattle.row.specs.Row.{namedIn}
 use Rattle.row.proofs.Named.{itself}
 
 module _ (s : List ℕ) where

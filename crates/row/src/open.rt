@@ -1,24 +1,17 @@
-// Before the first turn: the message, read once for all seats, and whether the row can be served at all.
+// Before the first turn: whether the row can be served at all, and whom a message is for as far as its reading tells.
 use crate::outcome::ClassOutcome;
 use crate::progress::Progress;
+use crate::progress::Round;
 use crate::progress::Scope;
+use crate::progress::Task;
 use crate::progress::silent;
 use wire::address::Address;
 use wire::kind::Message;
 use wire::kind::MessageKind;
 use wire::kind::Reading;
-use wire::read::read;
 ghost use mathlib.Core.Path.{_≡_};
-ghost use Rattle.row.specs.Row.{isShareFit, isRowFit, namedIn, heardIn};
-ghost use Rattle.row.specs.Round.{scopeOfKind, scopeOf, begun, opened};
-
-// What every seat is offered.
-pub fn hear(message: &[u8]) -> Message
-    ensures { λ r. ⌜ r ≡ heardIn (now (message .entry)) ⌝ }
-{
-    let to = named_in(message);
-    read(message, to)
-}
+ghost use Rattle.row.specs.Row.{isShareFit, isRowFit};
+ghost use Rattle.row.specs.Round.{scopeOfKind, scopeOf, taskOf, begun, opened};
 
 // Where the sum is wrong result 10 comes first, so that it is asked whom the message is for.
 fn scope_of(reading: Reading) -> Scope
@@ -42,16 +35,26 @@ fn scope_of_kind(kind: MessageKind) -> Scope
     }
 }
 
-pub fn open(seats: usize, bytes: usize, message: &[u8], heard: Message) -> Progress
-    ensures { λ r. ⌜ r ≡ opened seats bytes (now (message .entry)) (heard .reading) ⌝ }
+pub fn open(seats: usize, bytes: usize, heard: Message) -> Progress
+    ensures { λ r. ⌜ r ≡ opened seats bytes heard ⌝ }
 {
-    let to = named_in(message);
-    let reading = heard.reading;
-    let scope = scope_of(reading);
     if is_row_fit(seats, bytes) {
-        return begun(0, seats, bytes / seats, scope, to);
+        return begun(0, task_of(seats, bytes / seats, heard));
     }
-    begun(seats, seats, 0, scope, to)
+    begun(seats, task_of(seats, 0, heard))
+}
+
+fn task_of(seats: usize, share: usize, heard: Message) -> Task
+    ensures { λ r. ⌜ r ≡ taskOf seats share heard ⌝ }
+{
+    let reading = heard.reading;
+    let to = heard.to;
+    Task {
+        seats: seats,
+        share: share,
+        scope: scope_of(reading),
+        to: to,
+    }
 }
 
 // One to sixteen seats, and equal shares that are fit: result 11 does not apply.
@@ -71,27 +74,9 @@ fn is_share_fit(share: usize) -> bool
     (1 <= share) & (share <= 2048) & (share % 8 == 0)
 }
 
-// Whom a message is for; nobody's address where it is too short to say.
-fn named_in(message: &[u8]) -> Address
-    ensures { λ r. ⌜ r ≡ namedIn (now (message .entry)) ⌝ }
-{
-    if message.len() < 9 {
-        return Address {
-            high: 0,
-            middle: 0,
-            low: 0,
-        };
-    }
-    Address {
-        high: message[3],
-        middle: message[4],
-        low: message[5],
-    }
-}
-
 // What stands for the answer until there is one is that of a row that has no turns at all.
-fn begun(seat: usize, seats: usize, share: usize, scope: Scope, to: Address) -> Progress
-    ensures { λ r. ⌜ r ≡ begun seat seats share scope to ⌝ }
+fn begun(seat: usize, task: Task) -> Progress
+    ensures { λ r. ⌜ r ≡ begun seat task ⌝ }
 {
     let blank = Address {
         high: 0,
@@ -100,13 +85,9 @@ fn begun(seat: usize, seats: usize, share: usize, scope: Scope, to: Address) -> 
     };
     Progress {
         seat: seat,
-        seats: seats,
-        share: share,
-        serving: false,
-        all: false,
-        scope: scope,
-        to: to,
-        names: [blank; 16],
         answer: silent(ClassOutcome::Unfit),
+        round: Round::Note,
+        names: [blank; 16],
+        task: task,
     }
 }

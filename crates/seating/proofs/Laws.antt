@@ -13,12 +13,12 @@ use Rattle.device.specs.Run.{Call, Said}
 use Rattle.device.proofs.Lent.{room-alike}
 use Rattle.device.proofs.Replied.{replied}
 use Rattle.row.specs.declared.outcome.ClassOutcome.{ClassOutcome}
+use Rattle.row.specs.declared.progress.Whom.{Whom}
 use Rattle.row.specs.Number.{classNumberOf}
 use Rattle.class.specs.Class.{ClassStep}
 use Rattle.class.specs.Seats.{seatsOf}
 use Rattle.class.proofs.Lent.{ClassSaid, class-alike, class-replied}
 use Rattle.seating.specs.declared.heed.Seating.{Seating}
-use Rattle.seating.specs.Whom.{toWhom}
 use Rattle.seating.specs.Heed.{Heed, firstIn, aloneOf, byClass, classHeed, seatedWith, heedOf}
 use Rattle.seating.specs.Sat.{Sat, Told, heedIn, satBy, heedAll, satAfter, toldBy}
 
@@ -66,7 +66,7 @@ module _ (s : Seating) (l message : List ℕ) where
   class-replies : (room : List ℕ) → HeedReplied room (classHeed s l message room)
   class-replies room =
       let own = class-replied row l message room in
-      either (λ (t : ClassStep). HeedReplied room (byClass s message t)) _ (record { fits = omega arith; start = refl }) (record { fits = own .fits; start = own .start })
+      either (λ (t : ClassStep). HeedReplied room (byClass t)) _ (record { fits = omega arith; start = refl }) (record { fits = own .fits; start = own .start })
 
   alone-replies : (room : List ℕ) → HeedReplied room (aloneOf s l message room)
   alone-replies room = let own = replied (firstIn (s .row)) l message room in record { fits = own .fits; start = own .start }
@@ -82,7 +82,7 @@ module _ (s : Seating) (l message : List ℕ) where
         number = numberOf (x .outcome);
         reply = x .reply;
         read = x .read;
-        place = 0;
+        whom = Whom.Seat 0;
         left = record { seating = seatedWith s (set (s .row) 0 (x .left .device)); links = x .left .links };
       }
 
@@ -92,14 +92,14 @@ module _ (s : Seating) (l message : List ℕ) where
         number = classNumberOf (x .outcome);
         reply = x .reply;
         read = x .read;
-        place = toWhom (s .row) (s .count) message (classNumberOf (x .outcome));
+        whom = x .whom;
         left = record { seating = seatedWith s (x .row ++ drop (s .count) (s .row)); links = x .links };
       }
 
   module _ (room other : List ℕ) (e : length room ≡ length other) where
     class-same : HeedAlike sat (classHeed s l message room) (classHeed s l message other)
     class-same =
-        beside (λ (t u : ClassStep). HeedAlike sat (byClass s message t) (byClass s message u)) _ (record { same = refl })
+        beside (λ (t u : ClassStep). HeedAlike sat (byClass t) (byClass u)) _ (record { same = refl })
         (record { same = ap fromClass (class-alike row l message room other e .same) })
 
     alone-same : HeedAlike sat (aloneOf s l message room) (aloneOf s l message other)

@@ -2,6 +2,7 @@
 use Prim.Native.Nat.{ℕ}
 use mathlib.Core.List.{List, [], _∷_}
 use Rattle.device.specs.Run.{Call}
+use Rattle.row.specs.declared.progress.Whom.{Whom}
 use Rattle.seating.specs.declared.heed.Seating.{Seating}
 use Rattle.seating.specs.Heed.{Heed, seatedWith, heedOf}
 
@@ -33,8 +34,8 @@ pub record Told : Type 0 where
   pub number : ℕ
   pub reply : List ℕ
   pub read : ℕ
-  pub place : ℕ
+  pub whom : Whom
   pub left : Sat
 
 abbrev pub toldBy : Sat → Heed → Told
-toldBy s t = record { number = t .number; reply = t .reply; read = t .read; place = t .place; left = satBy s t }
+toldBy s t = record { number = t .number; reply = t .reply; read = t .read; whom = t .whom; left = satBy s t }

@@ -1,10 +1,10 @@
 // One message to whoever sits there.
-use crate::whom::whom;
 use class::seats::class_seats;
 use device::step::step;
 use module::state::Module;
 use results::number;
 use row::outcome::class_number;
+use row::progress::Whom;
 ghost use Rattle.seating.specs.Heed.{heedOf, aloneOf, classHeed, Heeds};
 
 // A module alone has the first place; a class has the first `count`.
@@ -14,13 +14,13 @@ pub struct Seating {
     pub is_class: bool,
 }
 
-// The paper's number, the reply's length, the records read, the place that it was for (16: every one, 17: none), and who sits there
-// afterwards.
+// The paper's number, the reply's length, the records read, whom it was for, and who sits there afterwards. A module alone is the first
+// seat.
 pub struct Heeded {
     pub number: u8,
     pub length: usize,
     pub read: usize,
-    pub place: usize,
+    pub whom: Whom,
     pub next: Seating,
 }
 
@@ -52,7 +52,7 @@ fn heed_alone(s: Seating, links: &mut [u8], message: &[u8], room: &mut [u8]) -> 
         number: number(outcome),
         length: a.length,
         read: a.read,
-        place: 0,
+        whom: Whom::Seat(0),
         next: Seating { row: after, ..s },
     }
 }
@@ -68,12 +68,12 @@ fn heed_class(s: Seating, links: &mut [u8], message: &[u8], room: &mut [u8]) -> 
     let after = served.seats;
     let answer = served.answer;
     let outcome = answer.outcome;
-    let number = class_number(outcome);
+    let whom = answer.whom;
     Heeded {
-        number: number,
+        number: class_number(outcome),
         length: answer.length,
         read: answer.read,
-        place: whom(row, s.count, message, number),
+        whom: whom,
         next: Seating { row: after, ..s },
     }
 }

@@ -2,7 +2,7 @@
 use Prim.Native.Nat.{ℕ, _+_, _-_, _%_}
 use mathlib.Core.Bool.{Bool, _&&_}
 use mathlib.Core.List.{List}
-use lib.Dec.{eqb}
+use lib.Dec.{eqb, ltb}
 use lib.ListN.{length, getD}
 use Rattle.basis.specs.Numbers.{isSet}
 use Rattle.basis.specs.Choice.{choose}
@@ -22,6 +22,14 @@ fromOf s = addressAt s 0
 
 abbrev pub toOf : List ℕ → Address
 toOf s = addressAt s 3
+
+-- nobody's address
+abbrev pub noName : Address
+noName = record { high = 0; middle = 0; low = 0 }
+
+-- whom a message is for; nobody where it is too short to say
+abbrev pub namedIn : List ℕ → Address
+namedIn s = choose (ltb (length s) 9) noName (toOf s)
 
 abbrev pub flagsOf : List ℕ → ℕ
 flagsOf s = getD s 6 0

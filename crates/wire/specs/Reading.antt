@@ -9,7 +9,7 @@ use Rattle.wire.specs.declared.address.Address.{Address}
 use Rattle.wire.specs.declared.kind.MessageKind.{MessageKind}
 use Rattle.wire.specs.declared.kind.Reading.{Reading}
 use Rattle.wire.specs.declared.kind.Message.{Message}
-use Rattle.wire.specs.Bytes.{isWhole, dataOf}
+use Rattle.wire.specs.Bytes.{namedIn, isWhole, dataOf}
 use Rattle.wire.specs.Kinds.{isForeign, kindOf}
 use Rattle.wire.specs.Checksum.{isSumWrong}
 
@@ -18,16 +18,20 @@ abbrev pub wellFormed : List ℕ → Address → Bool
 wellFormed s own = isWhole s && not (isForeign s own) && not (isSumWrong s)
 
 -- a reading with no data bytes beside it
-abbrev pub bare : Reading → Message
-bare r = record { reading = r; «data» = replicate 14 0 }
+abbrev pub bare : Address → Reading → Message
+bare to r = record { to = to; reading = r; «data» = replicate 14 0 }
 
 unfoldable pub readOf : List ℕ → Address → Message
 readOf s own =
     choose (isWhole s)
-    (choose (isForeign s own) (bare (Reading.Heard MessageKind.Foreign))
-    (choose (isSumWrong s) (bare Reading.BadSum)
-    (record { reading = Reading.Heard (kindOf s); «data» = dataOf s })))
-    (bare Reading.BadLength)
+    (choose (isForeign s own) (bare (namedIn s) (Reading.Heard MessageKind.Foreign))
+    (choose (isSumWrong s) (bare (namedIn s) Reading.BadSum)
+    (record { to = namedIn s; reading = Reading.Heard (kindOf s); «data» = dataOf s })))
+    (bare (namedIn s) Reading.BadLength)
+
+-- as whoever it is for reads it: what every seat of a class is offered
+abbrev pub heardIn : List ℕ → Message
+heardIn s = readOf s (namedIn s)
 
 -- the number of the refusal that applies first, and 0 where none does
 abbrev pub refusalOf : List ℕ → Address → ℕ

@@ -23,8 +23,10 @@ pub enum Reading {
     BadSum,
 }
 
-// A message that was read, with Data 1 to Data 14 beside its kind: 00 where it has none.
+// A message that was read: To, what it comes to, and Data 1 to Data 14 beside its kind, 00 where it has none.
 pub struct Message {
+    // Nobody's address, 00 00 00, where the message is too short to say.
+    pub to: Address,
     pub reading: Reading,
     pub data: [u8; 14],
 }

@@ -13,27 +13,45 @@ ghost use mathlib.Core.Path.{_≡_};
 ghost use mathlib.Core.Bool.{true};
 ghost use Prim.Native.Nat.{_+_, _≤_};
 ghost use lib.ListN.{length};
-ghost use Rattle.wire.specs.Bytes.{addressAt, requestOf, isExtended, isWhole, dataOf};
+ghost use Rattle.wire.specs.Bytes.{addressAt, namedIn, requestOf, isExtended, isWhole, dataOf};
 ghost use Rattle.wire.specs.Kinds.{isUnheard, isAstray, isForeign, kindOf, heardAs, commandOf};
 ghost use Rattle.wire.specs.Checksum.{isSumWrong};
-ghost use Rattle.wire.specs.Reading.{bare, ReadPromise};
+ghost use Rattle.wire.specs.Reading.{bare, readOf, heardIn, ReadPromise};
 
-// A message that reached the module whose address is `own`, in the order of "Result numbers": 1, 3, 4, then its kind.
+// A message that reached the module whose address is `own`.
 pub fn read(message: &[u8], own: Address) -> Message
     ensures { λ r. ⌜ ReadPromise (now (message .entry)) own r ⌝ }
 {
+    let to = named_in(message);
+    read_as(message, to, own)
+}
+
+// The same for whomever it names: what every seat of a class is offered.
+pub fn hear(message: &[u8]) -> Message
+    ensures { λ r. ⌜ r ≡ heardIn (now (message .entry)) ⌝ }
+{
+    let to = named_in(message);
+    read_as(message, to, to)
+}
+
+// In the order of "Result numbers": 1, 3, 4, then its kind.
+fn read_as(message: &[u8], to: Address, own: Address) -> Message
+    requires { ⌜ to ≡ namedIn (now message) ⌝ }
+    ensures { λ r. ⌜ r ≡ readOf (now (message .entry)) own ⌝ }
+{
     if !is_whole(message) {
-        return bare(Reading::BadLength);
+        return bare(to, Reading::BadLength);
     }
     if is_foreign(message, own) {
-        return bare(Reading::Heard(MessageKind::Foreign));
+        return bare(to, Reading::Heard(MessageKind::Foreign));
     }
     if is_sum_wrong(message) {
-        return bare(Reading::BadSum);
+        return bare(to, Reading::BadSum);
     }
     let kind = kind_of(message);
     let data = data_of(message);
     Message {
+        to: to,
         reading: Reading::Heard(kind),
         data: data,
     }
@@ -53,10 +71,11 @@ pub fn heard_as(message: &[u8]) -> MessageKind
 }
 
 // A reading with no data bytes beside it.
-fn bare(reading: Reading) -> Message
-    ensures { λ r. ⌜ r ≡ bare reading ⌝ }
+fn bare(to: Address, reading: Reading) -> Message
+    ensures { λ r. ⌜ r ≡ bare to reading ⌝ }
 {
     Message {
+        to: to,
         reading: reading,
         data: [0; 14],
     }
@@ -194,6 +213,20 @@ fn data_of(message: &[u8]) -> [u8; 14]
         message[21],
         message[22],
     ]
+}
+
+// Whom a message is for.
+fn named_in(message: &[u8]) -> Address
+    ensures { λ r. ⌜ r ≡ namedIn (now (message .entry)) ⌝ }
+{
+    if 9 <= message.len() {
+        return address_at(message, 3);
+    }
+    Address {
+        high: 0,
+        middle: 0,
+        low: 0,
+    }
 }
 
 // The address at place `at`.

@@ -13,7 +13,7 @@ too-many c =
     by (λ (t : ClassStep). ClassComes t (c .silent .result) (g .seats) (g .links .now) (g .room .now)) _
     (λ q.
     rw (c .silent .ensures)
-    (record { number = refl; outcome = refl; sent = refl; read = refl; seats = refl; memory = refl; room-after = refl }))
+    (record { number = refl; outcome = refl; sent = refl; read = refl; whom = refl; seats = refl; memory = refl; room-after = refl }))
     (λ q. clash (lt-ltb 16 (g .n) (c .before .if1 .taken)) q)
 
 seated : tie.Need-returns-2

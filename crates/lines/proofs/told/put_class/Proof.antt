@@ -7,10 +7,10 @@ use Rattle.lines.proofs.told.put_class.Statement.{statement}
 use Rattle.lines.proofs.told.put_class.Tie as tie
 
 abbrev Inv-loop : tie.InvT-loop
-Inv-loop line₀ frame h reply row n at₀ i₀ line at i = (length line ≡ length line₀) × (i ≤ n) × (n ≤ 16)
+Inv-loop line₀ frame reply row whom n at₀ i₀ line at i = (length line ≡ length line₀) × (i ≤ n) × (n ≤ 16)
 
 abbrev μ-loop : tie.MeasureT-loop
-μ-loop line₀ frame h reply row n at₀ i₀ line at i = n - i
+μ-loop line₀ frame reply row whom n at₀ i₀ line at i = n - i
 
 loop-holds : tie.Need-loop-holds Inv-loop μ-loop
 loop-holds c = (refl, omega arith, omega (arith, c .before .before .before .before .before .min .ensures))

@@ -8,6 +8,7 @@ pub put-seat-if-spec : {M : Type 1} → statement M
 put-seat-if-spec =
     tie.close
     (tie.spec
+    (λ c κs. search needs)
     (λ c. search needs)
     (λ c κs. search needs)
     (λ c κs. search needs)

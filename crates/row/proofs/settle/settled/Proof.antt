@@ -14,8 +14,9 @@ doubled c =
 
 apart : tie.Need-returns-2
 apart c =
+    let past = c .before .before in
     by (λ (t : Progress). c .by-scope .result ≡ t) _
-    (λ q. clash q (sym (c .before .before .is-doubled .ensures) ∙ c .before .if1 .left))
+    (λ q. clash q (sym (past .before .is-doubled .ensures) ∙ past .if1 .left))
     (λ q. c .by-scope .ensures)
 
 pub settled-spec : {M : Type 1} → statement M

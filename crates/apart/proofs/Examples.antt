@@ -9,6 +9,7 @@ use Rattle.links.specs.Record.{startOf}
 use Rattle.links.specs.Search.{stopOf}
 use Rattle.module.specs.Deed.{groupedBy}
 use Rattle.dimmer.specs.Load.{loadEntry}
+use Rattle.outlet.specs.Load as outlet-load
 use Rattle.outlet.specs.Groups.{socketGroup}
 use Rattle.decide.specs.Decide.{directPlan}
 use Rattle.decide.specs.Ruling.{rulingBy}
@@ -18,6 +19,6 @@ use Rattle.promises.specs.Outlets.{group-1, record-of}
 use Rattle.apart.specs.Examples.{dimmer, outlet, lit, top-on, seats, shares, pair, twins, seat, to-seat, of-seat, called, examples, cramped, AllRight}
 
 pub all-right : AllRight
-unfolding choose firstFrom standards extendeds groupCommandOf kindOf readOf startOf stopOf loadEntry groupedBy socketGroup directPlan rulingBy heardFrom classOf linked stranger
+unfolding choose firstFrom standards extendeds groupCommandOf kindOf readOf startOf stopOf loadEntry outlet-load.loadEntry groupedBy socketGroup directPlan rulingBy heardFrom classOf linked stranger
     zeros first-record memory room group-1 record-of dimmer outlet lit top-on seats shares pair twins seat to-seat of-seat called examples cramped
 all-right = refl

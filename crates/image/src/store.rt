@@ -3,6 +3,7 @@ use crate::held::is_image;
 use crate::places;
 use load::state::Lamp;
 use load::state::Load;
+use load::state::Sockets;
 use module::state::Module;
 ghost use mathlib.Core.Path.{_≡_};
 ghost use lib.ListN.{length};

@@ -1,14 +1,13 @@
 -- Byte after byte: those that are taken, with those that the words from a place on are, are all.
 use Prim.Native.Nat.{ℕ, zero, suc, _+_, _≤_, _<_}
 use mathlib.Core.Path.{_≡_, refl, sym, _∙_}
-use mathlib.Core.Bool.{Bool, true, false, and-false}
+use mathlib.Core.Bool.{true, false, and-false}
 use mathlib.Core.List.{List, [], _∷_}
 use native.Mathlib.Nat.{add-zero}
 use native.Mathlib.Omega.{arith}
 use lib.ListN.{length, set, replicate, length-set}
 use borrow.Author.Tests.{le-leb, lt-leb}
 use Rattle.basis.specs.Choice.{choose}
-use Rattle.roster.specs.declared.bytes.Bytes.{Bytes}
 use Rattle.roster.specs.Words.{wordStart, wordEnd, wordAt, wordsFrom, wordsBehind}
 use Rattle.roster.specs.Bytes.{isByte, byteOf, areBytes, placed, noBytes, bytesBehind, bytesOf}
 use Rattle.roster.proofs.Parted.{starts, ends, one-word, no-word}
@@ -56,9 +55,11 @@ module _ (s : List ℕ) (i k n : ℕ) (bytes : List ℕ) (p : Taken s i k n byte
   pub all-taken : length s ≤ start → record { bytes = bytes; count = n } ≡ bytesOf (wordsBehind s i)
   all-taken h = sym (none-more n bytes (p .few)) ∙ rw (no-word s k (p .left) h) at (p .gives)
 
-  -- there is one more word, so that one more was asked for
-  opened : start < length s → (m : ℕ) → length s ≤ k + m → bytesBehind n bytes (wordsFrom m s k) ≡ bytesOf (wordsBehind s i)
-      → (m : ℕ) × (length s ≤ end + m) × (bytesBehind n bytes (word ∷ wordsFrom m s end) ≡ bytesOf (wordsBehind s i))
+  -- one more word, and so many asked for behind it
+  abbrev More : Type 0
+  More = (m : ℕ) × (length s ≤ end + m) × (bytesBehind n bytes (word ∷ wordsFrom m s end) ≡ bytesOf (wordsBehind s i))
+
+  opened : start < length s → (m : ℕ) → length s ≤ k + m → bytesBehind n bytes (wordsFrom m s k) ≡ bytesOf (wordsBehind s i) → More
   opened h zero a e = let g = starts s k (p .inside) in absurd (omega arith)
   opened h (suc m) a e =
       let g = starts s k (p .inside) in
@@ -66,7 +67,7 @@ module _ (s : List ℕ) (i k n : ℕ) (bytes : List ℕ) (p : Taken s i k n byte
       (m, omega arith, rw (one-word s k m h) at e)
 
   module _ (h : start < length s) where
-    abbrev next : (m : ℕ) × (length s ≤ end + m) × (bytesBehind n bytes (word ∷ wordsFrom m s end) ≡ bytesOf (wordsBehind s i))
+    abbrev next : More
     next = opened h (p .left) (p .enough) (p .gives)
 
     pub word-taken : n < 7 → isByte word ≡ true → Taken s i end (n + 1) (set bytes n (byteOf word))

@@ -24,7 +24,7 @@ blankAt s k = isBlank (getD s k 0)
 abbrev pub inkAt : List ℕ → ℕ → Bool
 inkAt s k = not (blankAt s k)
 
--- from a place on, the next word begins where no blank is, and ends before the next blank or where the line does
+-- a word is as long as it can be: from a place on it begins where no blank is, and ends before the next blank or with the line
 unfoldable pub wordStart : List ℕ → ℕ → ℕ
 wordStart s at = firstFrom (inkAt s) (length s - at) at
 

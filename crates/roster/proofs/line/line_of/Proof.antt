@@ -7,10 +7,10 @@ use native.Mathlib.Omega.{arith}
 use lib.ListN.{length, take, drop}
 use lib.Seq.{length-take-le}
 use Rattle.roster.specs.Word.{smallLetters, named}
-use Rattle.roster.specs.Words.{bareLength, wordStart, wordEnd, wordAt, wordsBehind}
+use Rattle.roster.specs.Words.{bareLength, wordStart, wordEnd, wordsBehind}
 use Rattle.roster.specs.Bytes.{bytesOf}
 use Rattle.roster.specs.Line.{emptyLine, lineFor, lineBy, lineOf}
-use Rattle.roster.proofs.Parted.{bare-inside, starts, ends-there, one-word, no-word, enough}
+use Rattle.roster.proofs.Parted.{bare-inside, ends-there, one-word, no-word, enough}
 use Rattle.roster.proofs.line.line_of.Statement.{statement}
 use Rattle.roster.proofs.line.line_of.Tie as tie
 
@@ -43,19 +43,25 @@ line-at p = p .before .before .before .before .before .before .args .line .now
 abbrev bare-at : Ended → List ℕ
 bare-at p = take (p .before .before .before .before .bare-length .result) (line-at p)
 
-within : (p : Ended) → (p .before .before .word-start .result < p .word-end .result) × (p .word-end .result ≤ length (bare-at p))
+abbrev start-at : Ended → ℕ
+start-at p = p .before .before .word-start .result
+
+abbrev word-at : Ended → List ℕ
+word-at p = take (p .word-end .result - start-at p) (drop (start-at p) (bare-at p))
+
+within : (p : Ended) → (start-at p < p .word-end .result) × (p .word-end .result ≤ length (bare-at p))
 within p =
     let n = p .before .before .before .before .bare-length in
     let e = p .word-end .ensures in
     let l = measured (line-at p) (n .result) (n .ensures) in
-    let h = ends-there (bare-at p) 0 (p .before .before .word-start .result) (p .before .before .word-start .ensures) (omega (arith, p .before .if1 .left)) in
+    let h = ends-there (bare-at p) 0 (start-at p) (p .before .before .word-start .ensures) (omega (arith, p .before .if1 .left)) in
     (omega arith, omega arith)
 
-told : (p : Ended) → lineOf (line-at p) ≡ lineFor (named (smallLetters (take (p .word-end .result - p .before .before .word-start .result) (drop (p .before .before .word-start .result) (bare-at p))))) (bytesOf (wordsBehind (bare-at p) (p .word-end .result)))
+told : (p : Ended) → lineOf (line-at p) ≡ lineFor (named (smallLetters (word-at p))) (bytesOf (wordsBehind (bare-at p) (p .word-end .result)))
 told p =
     let n = p .before .before .before .before .bare-length in
-    let i = p .before .before .word-start in
-    worded (line-at p) (n .result) (n .ensures) (i .result) (p .word-end .result) (i .ensures) (p .before .if1 .left) (p .word-end .ensures)
+    let start = p .before .before .word-start in
+    worded (line-at p) (n .result) (n .ensures) (start-at p) (p .word-end .result) (start .ensures) (p .before .if1 .left) (p .word-end .ensures)
 
 slice-aggregate-bare : tie.Need-slice-aggregate-bare
 slice-aggregate-bare c =

@@ -37,7 +37,7 @@ pub fn sit() {
     }
 }
 
-// The class that the file `row` names serves what arrives until it ends; where a line of it names no module, that is said on standard error,
+// The class that the file `row` names serves what arrives until it ends; where a line of it is bad, that is said on standard error,
 // and nothing is served.
 pub fn teach() {
     match asked_of_class() {

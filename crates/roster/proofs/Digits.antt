@@ -1,22 +1,21 @@
--- Which byte is which digit, and of the bytes of a line each one.
-use Prim.Native.Nat.{ℕ, zero, suc, _+_, _-_, _*_, _≤_, _<_}
+-- Which byte is which digit, and what a word of two is.
+use Prim.Native.Nat.{ℕ, _+_, _-_, _≤_, _<_}
 use mathlib.Core.Path.{_≡_, refl}
-use mathlib.Core.Bool.{Bool, true, false, _&&_}
+use mathlib.Core.Bool.{Bool, true, false}
 use mathlib.Core.List.{List}
-use native.Mathlib.Nat.{zero-add}
 use native.Mathlib.Omega.{arith}
 use lib.Dec.{eqb, ltb}
-use lib.ListN.{getD}
-use borrow.Author.Tests.{le-leb, leb-true, ltb-true}
+use lib.ListN.{length, getD}
+use borrow.Author.Tests.{eqb-true, le-leb, leb-true, ltb-true}
 use Rattle.basis.specs.Choice.{choose}
 use Rattle.basis.specs.Numbers.{within}
 use Rattle.basis.proofs.Tests.{both}
-use Rattle.roster.specs.Line.{digitOf, isByte, areBytes}
+use Rattle.roster.specs.Bytes.{digitOf, areDigits, isByte}
 
-inside : (a b x : ℕ) → a ≤ x → x ≤ b → within a b x ≡ true
+pub inside : (a b x : ℕ) → a ≤ x → x ≤ b → within a b x ≡ true
 inside a b x h k = rw (le-leb a x h, le-leb x b k)
 
-outside : (a b x : ℕ) → (a ≤ x → x ≤ b → ⊥) → within a b x ≡ false
+pub outside : (a b x : ℕ) → (a ≤ x → x ≤ b → ⊥) → within a b x ≡ false
 outside a b x h = go (within a b x) refl
   where
     go : (t : Bool) → within a b x ≡ t → within a b x ≡ false
@@ -40,30 +39,10 @@ module _ (x : ℕ) where
   unfolding digitOf choose
   none f g h = rw (outside 0x30 0x39 x f, outside 0x41 0x46 x g, outside 0x61 0x66 x h)
 
--- where byte i is one, both of its digits are
-module _ (s : List ℕ) (i : ℕ) where
-  abbrev blank : Bool
-  blank = eqb (getD s (6 + 3 * i) 0) 0x20
-
-  abbrev high : ℕ
-  high = digitOf (getD s (6 + 3 * i + 1) 0)
-
-  abbrev low : ℕ
-  low = digitOf (getD s (6 + 3 * i + 2) 0)
-
-  pub digits : isByte s i ≡ true → (high < 16) × (low < 16)
-  digits h =
-      let p = both (blank && ltb high 16) (ltb low 16) h in
-      (ltb-true high 16 (both blank (ltb high 16) (p .0) .1), ltb-true low 16 (p .1))
-
--- where d more are bytes, these are, and the one behind them
-pub fewer : (d n : ℕ) (s : List ℕ) → areBytes (d + n) s ≡ true → areBytes n s ≡ true
-unfolding areBytes
-fewer zero n s e = rw zero-add at e
-fewer (suc d) n s e =
-    let next : suc d + n ≡ suc (d + n) = omega arith in
-    fewer d n s (both (areBytes (d + n) s) (isByte s (d + n)) (rw next at e) .0)
-
-pub each : (d i : ℕ) (s : List ℕ) → areBytes (d + suc i) s ≡ true → isByte s i ≡ true
-unfolding areBytes
-each d i s e = both (areBytes i s) (isByte s i) (fewer d (suc i) s e) .1
+-- a byte has two digits
+pub digits : (w : List ℕ) → isByte w ≡ true → (length w ≡ 2) × (digitOf (getD w 0 0) < 16) × (digitOf (getD w 1 0) < 16)
+unfolding isByte
+digits w h =
+    let p = both (eqb (length w) 2) (areDigits w) h in
+    let q = both (ltb (digitOf (getD w 0 0)) 16) (ltb (digitOf (getD w 1 0)) 16) (p .1) in
+    (eqb-true (length w) 2 (p .0), ltb-true _ 16 (q .0), ltb-true _ 16 (q .1))

@@ -1,21 +1,31 @@
-// A line of the row: a kind, and an address of three bytes or an identity of seven, as in `dimmer 00 10 3A`.
+// A line of the row: a kind, and an address of three bytes or an identity of seven, as in `dimmer 00 10 3A # her name`; or nothing.
+use crate::bytes::Bytes;
+use crate::bytes::bytes_behind;
 use crate::seat::fresh_as;
 use crate::seat::fresh_at;
 use crate::word::Kind;
 use crate::word::Meaning;
-use crate::word::named;
+use crate::word::named_any;
+use crate::words::bare_length;
+use crate::words::word_end;
+use crate::words::word_start;
 use module::state::Identity;
 use module::state::Module;
 use wire::address::Address;
 ghost use mathlib.Core.Path.{_≡_};
-ghost use mathlib.Core.Bool.{true};
-ghost use Prim.Native.Nat.{_+_, _*_, _≤_, _<_};
-ghost use lib.ListN.{length};
-ghost use Rattle.roster.specs.Line.{digitOf, isByte, byteAt, areBytes, addressIn, identityIn, noSeat, shortLine, longLine, lineAs, bareLength, lineOf};
+ghost use Rattle.roster.specs.Line.{addressIn, identityIn, nobody, seatOf, emptyLine, badLine, lineAs, lineOf};
 
-// Whether it names a module, and which; where it does not, nobody.
+pub enum Reading {
+    // No word stands there.
+    Nothing,
+    Seat,
+    // Words that name no module.
+    Refused,
+}
+
+// The module is the one that it names; where it names none, nobody.
 pub struct Line {
-    pub is_seat: bool,
+    pub reading: Reading,
     pub module: Module,
 }
 
@@ -23,148 +33,90 @@ pub fn line_of(line: &[u8]) -> Line
     ensures { λ r. ⌜ r ≡ lineOf (now (line .entry)) ⌝ }
 {
     let n = bare_length(line);
-    if n < 6 {
-        return no_seat();
-    }
     let bare = &line[..n];
-    match named(&line[..6]) {
-        Meaning::Kind(kind) => line_as(bare, kind),
-        Meaning::Unknown => no_seat(),
+    let start = word_start(bare, 0);
+    if start >= n {
+        return empty_line();
+    }
+    let end = word_end(bare, start);
+    match named_any(&bare[start..end]) {
+        Meaning::Kind(kind) => line_as(kind, bytes_behind(bare, end)),
+        Meaning::Unknown => bad_line(),
     }
 }
 
-// An editor may end its lines with 0D and 0A.
-fn bare_length(line: &[u8]) -> usize
-    ensures { λ r. ⌜ r ≡ bareLength (now (line .entry)) ⌝ }
-    ensures { λ r. ⌜ r ≤ length (now (line .entry)) ⌝ }
+// By how many bytes there are.
+fn line_as(kind: Kind, b: Bytes) -> Line
+    ensures { λ r. ⌜ r ≡ lineAs kind b ⌝ }
 {
-    let n = line.len();
-    if n == 0 {
-        return 0;
-    }
-    let last = n - 1;
-    if line[last] == 0x0d { last } else { n }
-}
-
-// Behind the kind, by how long it is.
-fn line_as(line: &[u8], kind: Kind) -> Line
-    ensures { λ r. ⌜ r ≡ lineAs (now (line .entry)) kind ⌝ }
-{
-    let n = line.len();
+    let bytes = b.bytes;
+    let n = b.count;
     match n {
-        15 => short_line(line, kind),
-        27 => long_line(line, kind),
-        _ => no_seat(),
+        3 => seat_of(fresh_at(kind, address_in(bytes))),
+        7 => seat_of(fresh_as(kind, identity_in(bytes))),
+        _ => bad_line(),
     }
 }
 
-fn short_line(line: &[u8], kind: Kind) -> Line
-    requires { ⌜ length (now line) ≡ 15 ⌝ }
-    ensures { λ r. ⌜ r ≡ shortLine (now (line .entry)) kind ⌝ }
+fn address_in(b: [u8; 7]) -> Address
+    ensures { λ r. ⌜ r ≡ addressIn b ⌝ }
 {
-    if !are_three(line) {
-        return no_seat();
+    Address {
+        high: b[0],
+        middle: b[1],
+        low: b[2],
     }
-    let m = fresh_at(kind, address_in(line));
+}
+
+fn identity_in(b: [u8; 7]) -> Identity
+    ensures { λ r. ⌜ r ≡ identityIn b ⌝ }
+{
+    let a = address_in(b);
+    Identity {
+        address: a,
+        category: b[3],
+        subcategory: b[4],
+        firmware: b[5],
+        revision: b[6],
+    }
+}
+
+fn seat_of(m: Module) -> Line
+    ensures { λ r. ⌜ r ≡ seatOf m ⌝ }
+{
     Line {
-        is_seat: true,
+        reading: Reading::Seat,
         module: m,
     }
 }
 
-fn long_line(line: &[u8], kind: Kind) -> Line
-    requires { ⌜ length (now line) ≡ 27 ⌝ }
-    ensures { λ r. ⌜ r ≡ longLine (now (line .entry)) kind ⌝ }
+fn empty_line() -> Line
+    ensures { λ r. ⌜ r ≡ emptyLine ⌝ }
 {
-    if !are_seven(line) {
-        return no_seat();
-    }
-    let m = fresh_as(kind, identity_in(line));
+    let m = nobody();
     Line {
-        is_seat: true,
+        reading: Reading::Nothing,
         module: m,
     }
 }
 
-pub(crate) fn no_seat() -> Line
-    ensures { λ r. ⌜ r ≡ noSeat ⌝ }
+fn bad_line() -> Line
+    ensures { λ r. ⌜ r ≡ badLine ⌝ }
+{
+    let m = nobody();
+    Line {
+        reading: Reading::Refused,
+        module: m,
+    }
+}
+
+pub(crate) fn nobody() -> Module
+    ensures { λ r. ⌜ r ≡ nobody ⌝ }
 {
     let blank = Address {
         high: 0,
         middle: 0,
         low: 0,
     };
-    let m = fresh_at(Kind::Dimmer, blank);
-    Line {
-        is_seat: false,
-        module: m,
-    }
-}
-
-fn address_in(line: &[u8]) -> Address
-    requires { ⌜ (15 ≤ length (now line)) × (areBytes 3 (now line) ≡ true) ⌝ }
-    ensures { λ r. ⌜ r ≡ addressIn (now (line .entry)) ⌝ }
-{
-    Address {
-        high: byte_at(line, 0),
-        middle: byte_at(line, 1),
-        low: byte_at(line, 2),
-    }
-}
-
-fn identity_in(line: &[u8]) -> Identity
-    requires { ⌜ (27 ≤ length (now line)) × (areBytes 7 (now line) ≡ true) ⌝ }
-    ensures { λ r. ⌜ r ≡ identityIn (now (line .entry)) ⌝ }
-{
-    let a = address_in(line);
-    Identity {
-        address: a,
-        category: byte_at(line, 3),
-        subcategory: byte_at(line, 4),
-        firmware: byte_at(line, 5),
-        revision: byte_at(line, 6),
-    }
-}
-
-// Behind the kind's six letters three times a blank and two digits.
-fn are_three(line: &[u8]) -> bool
-    requires { ⌜ 15 ≤ length (now line) ⌝ }
-    ensures { λ r. ⌜ r ≡ areBytes 3 (now (line .entry)) ⌝ }
-{
-    is_byte(line, 0) & is_byte(line, 1) & is_byte(line, 2)
-}
-
-fn are_seven(line: &[u8]) -> bool
-    requires { ⌜ 27 ≤ length (now line) ⌝ }
-    ensures { λ r. ⌜ r ≡ areBytes 7 (now (line .entry)) ⌝ }
-{
-    are_three(line) & is_byte(line, 3) & is_byte(line, 4) & is_byte(line, 5) & is_byte(line, 6)
-}
-
-fn is_byte(line: &[u8], i: usize) -> bool
-    requires { ⌜ (i < 7) × (6 + 3 * i + 3 ≤ length (now line)) ⌝ }
-    ensures { λ r. ⌜ r ≡ isByte (now (line .entry)) i ⌝ }
-{
-    let at = 6 + 3 * i;
-    (line[at] == b' ') & (digit_of(line[at + 1]) < 16) & (digit_of(line[at + 2]) < 16)
-}
-
-fn byte_at(line: &[u8], i: usize) -> u8
-    requires { ⌜ (i < 7) × (6 + 3 * i + 3 ≤ length (now line)) × (isByte (now line) i ≡ true) ⌝ }
-    ensures { λ r. ⌜ r ≡ byteAt (now (line .entry)) i ⌝ }
-{
-    let at = 6 + 3 * i;
-    digit_of(line[at + 1]) * 16 + digit_of(line[at + 2])
-}
-
-// 16 where it is no digit.
-fn digit_of(x: u8) -> u8
-    ensures { λ r. ⌜ r ≡ digitOf x ⌝ }
-{
-    match x {
-        b'0'..=b'9' => x - b'0',
-        b'A'..=b'F' => x - b'A' + 10,
-        b'a'..=b'f' => x - b'a' + 10,
-        _ => 16,
-    }
+    fresh_at(Kind::Dimmer, blank)
 }

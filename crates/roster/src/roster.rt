@@ -1,19 +1,20 @@
 // The row of a class, line after line.
 use crate::line::Line;
+use crate::line::Reading;
 use crate::line::line_of;
-use crate::line::no_seat;
+use crate::line::nobody;
 use module::state::Module;
 ghost use mathlib.Core.Path.{_≡_};
 ghost use Prim.Native.Nat.{_-_, _^_, _≤_, _<_};
 ghost use lib.ListN.{length};
-ghost use Rattle.roster.specs.Roster.{lineEnd, lineNext, emptyRoster, withSeat, badAfter, withLine, rosterOf};
+ghost use Rattle.roster.specs.Roster.{textStart, lineEnd, lineNext, emptyRoster, withSeat, oneMore, badAfter, refused, withLine, rosterOf};
 
 pub struct Roster {
-    // The modules of the first sixteen lines, in their places.
+    // The first sixteen modules, in their places.
     pub row: [Module; 16],
-    // How many lines there are.
+    // How many modules there are.
     pub count: usize,
-    // The number of the first line that names no module, counted from 1; 0 where every line does.
+    // The number of the first line that is bad, of all lines of the text and counted from 1; 0 where none is.
     pub bad: usize,
 }
 
@@ -21,11 +22,13 @@ pub fn roster_of(text: &[u8]) -> Roster
     ensures { λ r. ⌜ r ≡ rosterOf (now (text .entry)) ⌝ }
 {
     let mut r = empty_roster();
-    let mut at: usize = 0;
+    let mut at = text_start(text);
+    let mut number: usize = 0;
     while at < text.len() {
         let end = line_end(text, at);
         let line = line_of(&text[at..end]);
-        r = with_line(r, line);
+        number += 1;
+        r = with_line(r, number, line);
         at = line_next(text, end);
     }
     r
@@ -34,12 +37,26 @@ pub fn roster_of(text: &[u8]) -> Roster
 fn empty_roster() -> Roster
     ensures { λ r. ⌜ r ≡ emptyRoster ⌝ }
 {
-    let none = no_seat();
-    let blank = none.module;
+    let blank = nobody();
     Roster {
         row: [blank; 16],
         count: 0,
         bad: 0,
+    }
+}
+
+// Behind the byte order mark that some editors write first.
+fn text_start(text: &[u8]) -> usize
+    ensures { λ r. ⌜ r ≡ textStart (now (text .entry)) ⌝ }
+    ensures { λ r. ⌜ r ≤ length (now (text .entry)) ⌝ }
+{
+    if text.len() < 3 {
+        return 0;
+    }
+    if (text[0] == 0xef) & (text[1] == 0xbb) & (text[2] == 0xbf) {
+        3
+    } else {
+        0
     }
 }
 
@@ -68,19 +85,30 @@ fn line_next(text: &[u8], end: usize) -> usize
     }
 }
 
-// The lines are counted on wherever one is bad, and none behind the sixteenth has a place.
-fn with_line(r: Roster, line: Line) -> Roster
+fn with_line(r: Roster, number: usize, line: Line) -> Roster
     requires { ⌜ r .count < 2 ^ 64 - 1 ⌝ }
-    ensures { λ x. ⌜ x ≡ withLine r line ⌝ }
+    ensures { λ x. ⌜ x ≡ withLine r number line ⌝ }
 {
-    let number = r.count + 1;
     let m = line.module;
+    let reading = line.reading;
+    match reading {
+        Reading::Nothing => r,
+        Reading::Seat => one_more(r, m),
+        Reading::Refused => refused(r, number),
+    }
+}
+
+// The modules are counted on, and none behind the sixteenth has a place.
+fn one_more(r: Roster, m: Module) -> Roster
+    requires { ⌜ r .count < 2 ^ 64 - 1 ⌝ }
+    ensures { λ x. ⌜ x ≡ oneMore r m ⌝ }
+{
     let row = r.row;
     let after = with_seat(row, r.count, m);
     Roster {
         row: after,
-        count: number,
-        bad: bad_after(r.bad, number, line.is_seat),
+        count: r.count + 1,
+        bad: r.bad,
     }
 }
 
@@ -94,11 +122,19 @@ fn with_seat(row: [Module; 16], i: usize, m: Module) -> [Module; 16]
     after
 }
 
-fn bad_after(bad: usize, number: usize, is_seat: bool) -> usize
-    ensures { λ r. ⌜ r ≡ badAfter bad number «is_seat» ⌝ }
+fn refused(r: Roster, number: usize) -> Roster
+    ensures { λ x. ⌜ x ≡ refused r number ⌝ }
 {
-    if bad != 0 {
-        return bad;
+    let row = r.row;
+    Roster {
+        row: row,
+        count: r.count,
+        bad: bad_after(r.bad, number),
     }
-    if is_seat { 0 } else { number }
+}
+
+fn bad_after(bad: usize, number: usize) -> usize
+    ensures { λ r. ⌜ r ≡ badAfter bad number ⌝ }
+{
+    if bad == 0 { number } else { bad }
 }

@@ -90,9 +90,9 @@ fn missing_links_are_eleven() {
     assert!(!folder.links().exists());
 }
 
-/// Shares go by how many lines there are: what is fit for one is not for two.
+/// Shares go by how many modules there are: what is fit for one is not for two, and comments have no share.
 #[test]
-fn shares_go_by_the_lines_of_row() {
+fn shares_go_by_the_modules_of_row() {
     let ping = [direct(HER, 0, 0x0F, 0x00)];
     let answer = frame(&reply(0, HER, 0x2F, 0x0F, 0x00));
     let lines: Vec<_> = ROW.lines().collect();
@@ -105,7 +105,8 @@ fn shares_go_by_the_lines_of_row() {
     ] {
         for seats in 1..=3 {
             let links = [0x00; 56];
-            let folder = Folder::with_links(&links[..length]).and_row(lines[..seats].join("\n"));
+            let folder =
+                Folder::with_links(&links[..length]).and_row(lines[..seats].join("\n\n# next\n"));
             let expected = match served[seats - 1] {
                 true => &answer[..],
                 false => &[],

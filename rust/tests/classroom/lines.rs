@@ -50,9 +50,9 @@ fn the_quiet_pupil_keeps_her_level() {
     assert_told(&three_seats(), &quiet_pupil());
 }
 
-/// The seat is the line of `row`, wherever a module sits.
+/// The seat is the module's number in `row`, wherever it sits.
 #[test]
-fn seats_are_told_by_their_lines() {
+fn seats_are_told_by_their_numbers() {
     let mut row: Vec<_> = ROW.lines().collect();
     row.rotate_left(1);
     let mut links = LINKS;

@@ -1,29 +1,33 @@
-//! The file `row`: a module a line, and what is said of lines that name none.
+//! The file `row`: a module a line, as people write it, and what is said of lines that are bad.
 
 use dreelish_tests::example::{standard, LINKS as SHARE};
 
 use crate::*;
 
-/// Lines that name no module.
+/// Lines that name no module, and are not empty.
 #[rustfmt::skip]
-const BAD: [&str; 60] = [
-    // nothing, or nothing that is asked for
-    "", "\r", " ", "# her dimmer", "00 10 3A", "dimmer", "dimmer ", "outlet",
+const BAD: [&str; 68] = [
+    // not all that is asked for
+    "00 10 3A", "dimmer", "dimmer ", "\toutlet", "3A", "00 10 3A dimmer",
     // no such kind
     "heater 00 10 3A", "dimmers 00 10 3A", "dimme 00 10 3A", "lamp 00 10 3A", "dimmerx 00 10 3A", "dinner 00 10 3A",
-    "DIMMER 00 10 3A", "Dimmer 00 10 3A", "dimmeR 00 10 3A", "OUTLET 00 10 3A", "Outlet 00 10 3A", "outlet00 10 3A",
-    // blanks, too many or too few, or others
-    " dimmer 00 10 3A", "dimmer  00 10 3A", "dimmer 00  10 3A", "dimmer 00 10  3A", "dimmer 00 10 3A ", "dimmer 00 10 3A  ",
-    "dimmer00 10 3A", "dimmer 0010 3A", "dimmer 00103A", "dimmer\t00 10 3A", "dimmer 00\t10 3A", "dimmer 00 10 3A\t",
-    "\tdimmer 00 10 3A", "dimmer,00 10 3A", "dimmer 00-10-3A", "dimmer 00:10:3A", "dimmer 00 10\u{A0}3A", "dimmer 00 10 3A\0",
+    "di mmer 00 10 3A", "d 00 10 3A", "outlet00 10 3A", "dimmer00 10 3A", "dimmer: 00 10 3A", "\"dimmer\" 00 10 3A",
+    "[immer 00 10 3A", "$immer 00 10 3A", "\u{11}immer 00 10 3A",
+    // other signs between the words
+    "dimmer,00 10 3A", "dimmer 00-10-3A", "dimmer 00:10:3A", "dimmer 00.10.3A", "dimmer 0010 3A", "dimmer 00103A",
+    "dimmer 00 10\u{A0}3A", "dimmer 00 10 3A\0", "dimmer\u{B}00 10 3A", "dimmer 00\u{C}10 3A",
     // bytes, too few or too many
     "dimmer 00", "dimmer 00 10", "dimmer 00 10 3A 01", "dimmer 00 10 3A 01 0F", "dimmer 00 10 3A 01 0F C1",
-    "outlet 00 10 3A 02 39 C2 00 00", "dimmer 00 10 3A 01 0F C1 00 ", "dimmer 00 10 3A dimmer 00 10 3B",
+    "outlet 00 10 3A 02 39 C2 00 00", "dimmer 00 10 3A 01 0F C1 00 00 00", "dimmer 00 10 3A dimmer 00 10 3B", "dimmer dimmer 00 10 3A",
+    // what is missing stands in the comment
+    "dimmer # 00 10 3A", "dimmer 00 10 # 3A", "dimmer 00 10 #3A", "dimmer 00 10 3#A", "outlet 00 10 3A 02 39 C2 # 00",
+    // no comment
+    "; her dimmer", "// her dimmer", "dimmer 00 10 3A Anna", "dimmer 00 10 3A // Anna",
     // digits, too few or too many, or none
-    "dimmer 0 10 3A", "dimmer 00 10 3", "dimmer 000 10 3A", "dimmer 00 10 3AA", "dimmer 00 10 3G", "dimmer 00 10 g3",
+    "dimmer 0 10 3A", "dimmer 00 10 3", "dimmer 000 10 3A", "dimmer 00 10 3AA", "dimmer 00 10 3G", "dimmer 00 10 g3", "dimmer 00 10 3 A",
     "dimmer 00 10 /0", "dimmer 00 10 0:", "dimmer 00 10 @A", "dimmer 00 10 `a", "dimmer 00 10 -1", "dimmer 0x 10 3A",
     // 0D but at the end, and two of it
-    "dimmer 00\r 10 3A", "dimmer 00 10 3A\r\r",
+    "dimmer 00\r 10 3A", "dimmer 00 10 3A\r\r", "dimmer 00 10 3A\r # Anna", "\rdimmer 00 10 3A", "\r\r", "\r ",
 ];
 
 /// A line that names one.
@@ -83,31 +87,58 @@ fn whichever_line_is_bad_is_named() {
 #[test]
 fn the_first_bad_line_is_the_one_named() {
     assert_named("dimmer 00 10 3A\nheater 00 10 3B\n\nheater 00 10 3C\n", 2);
-    assert_named("dimmer 00 10 3A\n\nheater 00 10 3B\n", 2);
+    assert_named("dimmer 00 10 3A\n\nheater 00 10 3B\nheater\n", 3);
 }
 
-/// Before the others, between them, behind them, and alone.
+/// Lines that are skipped count, and so do those of other modules.
 #[test]
-fn an_empty_line_is_bad() {
+fn a_bad_line_is_numbered_among_all_lines() {
     for (row, number) in [
-        ("\ndimmer 00 10 3A\n", 1),
-        ("dimmer 00 10 3A\n\ndimmer 00 10 3B\n", 2),
-        ("dimmer 00 10 3A\r\n\r\ndimmer 00 10 3B\r\n", 2),
-        ("dimmer 00 10 3A\n\n", 2),
-        ("dimmer 00 10 3A\r\n\r\n", 2),
-        ("\n", 1),
-        ("\r\n", 1),
+        ("# table 1\nheater 00 10 3A\n", 2),
+        ("\nheater 00 10 3A\n", 2),
+        ("\r\n\t\r\nheater 00 10 3A\r\n", 3),
+        (
+            "# table 1\n\ndimmer 00 10 3A # Anna\n  # Ben is ill\n\ndimmer 00 10\n# end\n",
+            6,
+        ),
+        ("\u{FEFF}# table 1\ndimmer 00 10 3A\ndimmer 00 10", 3),
+        ("dimmer 00 10 3A\n\n\n\nheater", 5),
     ] {
         assert_named(row, number);
     }
+    let far = "# nobody\n".repeat(299) + "heater\n";
+    assert_named(far, 300);
 }
 
-/// The bytes that some editors put before all others are of no kind, and neither are letters of two bytes.
+/// The mark that some editors put before all others stands once and whole, at the start of the file; a name may have any letters.
 #[test]
-fn letters_beyond_ascii_name_nobody() {
-    assert_named("\u{FEFF}dimmer 00 10 3A\n", 1);
+fn letters_beyond_ascii_stand_in_comments() {
+    assert_named("\u{FEFF}\u{FEFF}dimmer 00 10 3A\n", 1);
+    assert_named(" \u{FEFF}dimmer 00 10 3A\n", 1);
+    assert_named("dimmer 00 10 3A\n\u{FEFF}dimmer 00 10 3B\n", 2);
+    assert_named(b"\xEF\xBBdimmer 00 10 3A\n", 1);
+    assert_named(b"\xEF\xBB", 1);
+    assert_named(b"\xFF\xFE", 1);
     assert_named(b"dimmer 00 10 3A\n\xFF\xFE\n", 2);
     assert_named("dimmer 00 10 3A\ndimmér 00 10 3A\n", 2);
+    let row = "# Jürgens Klasse\ndimmer 00 10 3A # Zoë\n";
+    assert_eq!(
+        pinged(&Folder::with_links(&SHARE).and_row(row), 0)[0],
+        "0 carried out | from AA BB CC to 00 10 3A | direct 0F 00 ping | reply 00 10 3A AA BB CC 2F 0F 00 | read 0 | seat 1 | level 00"
+    );
+}
+
+/// Whatever lines are skipped before them.
+#[test]
+fn seats_count_modules() {
+    let row = "# table 1\n\ndimmer 00 10 3A # Anna\n# Ben is ill\n# dimmer 00 10 3C\n\t\ndimmer 00 10 3B # Carla\n\n";
+    let shown = pinged(&Folder::with_links(&SHARE.repeat(2)).and_row(row), 1);
+    assert!(shown[0].contains(" | seat 1 | "), "{}", shown[0]);
+    assert!(shown[1].contains(" | seat 2 | "), "{}", shown[1]);
+    assert_eq!(
+        shown[2..][12..],
+        ["seat 1: 1", "seat 2: 1", "every seat: 0"]
+    );
 }
 
 /// In frames too nothing is served, though the other seats are fit.
@@ -117,15 +148,59 @@ fn a_bad_line_answers_no_frame() {
     assert!(said.starts_with("row, line 2: "), "{said}");
 }
 
-/// Asks at each address who is there.
+/// Asks at each address who is there, in a class of as many seats.
 fn who(row: &str, addresses: &[Address]) -> Vec<u8> {
     let ask = |&to| standard(HIM, to, 0x0F, [0x10, 0x00]);
     let messages: Vec<_> = addresses.iter().map(ask).collect();
-    let folder = Folder::with_links(&SHARE.repeat(row.lines().count())).and_row(row);
+    let folder = Folder::with_links(&SHARE.repeat(addresses.len())).and_row(row);
     answered(&folder, &messages)
 }
 
-/// Small digits and capital ones, 0A and 0D 0A, an end or none behind the last line; seven bytes that say what three do.
+/// Rows that all say the same.
+#[rustfmt::skip]
+const ALIKE: [&str; 33] = [
+    // 0A and 0D 0A, an end or none behind the last line
+    "dimmer 0A BC DE\noutlet F1 23 45\n",
+    "dimmer 0A BC DE\noutlet F1 23 45",
+    "dimmer 0A BC DE\r\noutlet F1 23 45\r\n",
+    "dimmer 0A BC DE\r\noutlet F1 23 45",
+    "dimmer 0A BC DE\noutlet F1 23 45\r",
+    // small letters and capital ones
+    "dimmer 0a bc de\noutlet f1 23 45\n",
+    "dimmer 0a Bc dE\noutlet F1 23 45\n",
+    "Dimmer 0A BC DE\nOutlet F1 23 45\n",
+    "DIMMER 0a bc de\nOUTLET f1 23 45\n",
+    "dImMeR 0A BC DE\noutleT F1 23 45\n",
+    // seven bytes that say what three do
+    "dimmer 0A BC DE 01 0F C1 00\noutlet F1 23 45 02 39 C2 00\n",
+    "dimmer 0a bc de 01 0f c1 00\r\noutlet f1 23 45 02 39 c2 00",
+    "dimmer 0A BC DE\noutlet F1 23 45 02 39 c2 00\n",
+    // blanks and tabs
+    "dimmer  0A  BC  DE\noutlet   F1 23    45\n",
+    "dimmer\t0A\tBC\tDE\noutlet\tF1\t23\t45\n",
+    "dimmer \t 0A\t BC \tDE\noutlet \t\tF1 23 45\n",
+    " dimmer 0A BC DE\n\toutlet F1 23 45\n",
+    "dimmer 0A BC DE \noutlet F1 23 45\t\n",
+    "   dimmer   0A BC DE   \r\n\t\toutlet\tF1 23 45 \t\r\n",
+    "dimmer 0A BC DE 01 0F C1 00 \n outlet F1 23 45  02 39 C2 00",
+    // names
+    "dimmer 0A BC DE # Anna\noutlet F1 23 45 # Ben\n",
+    "dimmer 0A BC DE# Anna\noutlet F1 23 45 #Ben",
+    "dimmer 0A BC DE\t#\tAnna # and Carla\r\noutlet F1 23 45 #\r\n",
+    "dimmer 0A BC DE # 01 0F C1 00\noutlet F1 23 45 # dimmer 00 10 3A\n",
+    "dimmer 0A BC DE # Anna\t\r\r\noutlet F1 23 45 02 39 C2 00#00\n",
+    // lines with nothing to read
+    "# table 1\ndimmer 0A BC DE\noutlet F1 23 45\n",
+    "#\n##\n # # \ndimmer 0A BC DE\n# dimmer 00 10 3A\noutlet F1 23 45\n#",
+    "\n\ndimmer 0A BC DE\n\noutlet F1 23 45\n\n\n",
+    "\r\ndimmer 0A BC DE\r\n\r\noutlet F1 23 45\r\n\r\n\r",
+    " \n\t\ndimmer 0A BC DE\n \t \r\noutlet F1 23 45\n   ",
+    // the mark that some editors write first
+    "\u{FEFF}dimmer 0A BC DE\noutlet F1 23 45\n",
+    "\u{FEFF}# table 1\r\n\r\ndimmer 0A BC DE\r\noutlet F1 23 45",
+    "\u{FEFF}\n\tDimmer 0a bc de # Anna\noutlet F1 23 45",
+];
+
 #[test]
 fn a_row_may_be_written_so_and_so() {
     #[rustfmt::skip]
@@ -135,18 +210,7 @@ fn a_row_may_be_written_so_and_so() {
         0x02, 0x50, 0xF1, 0x23, 0x45, 0x11, 0x22, 0x33, 0x2F, 0x10, 0x00,
         0x02, 0x50, 0xF1, 0x23, 0x45, 0x02, 0x39, 0xC2, 0x8F, 0x01, 0x00,
     ];
-    for row in [
-        "dimmer 0A BC DE\noutlet F1 23 45\n",
-        "dimmer 0A BC DE\noutlet F1 23 45",
-        "dimmer 0A BC DE\r\noutlet F1 23 45\r\n",
-        "dimmer 0A BC DE\r\noutlet F1 23 45",
-        "dimmer 0A BC DE\noutlet F1 23 45\r\n",
-        "dimmer 0a bc de\noutlet f1 23 45\n",
-        "dimmer 0a Bc dE\noutlet F1 23 45\n",
-        "dimmer 0A BC DE 01 0F C1 00\noutlet F1 23 45 02 39 C2 00\n",
-        "dimmer 0a bc de 01 0f c1 00\r\noutlet f1 23 45 02 39 c2 00",
-        "dimmer 0A BC DE\noutlet F1 23 45 02 39 c2 00\n",
-    ] {
+    for row in ALIKE {
         let wrote = who(row, &[[0x0A, 0xBC, 0xDE], [0xF1, 0x23, 0x45]]);
         assert_eq!(wrote, answers, "{row:?}");
     }
@@ -225,10 +289,19 @@ fn more_than_sixteen_lines_are_eleven() {
     }
 }
 
+/// So is one that names no module.
 #[test]
 fn an_empty_row_is_eleven() {
-    for links in [&[][..], &SHARE] {
-        let folder = Folder::with_links(links).and_row("");
+    let rows = [
+        "",
+        "\n",
+        "\r\n\t\n",
+        "# nobody\n",
+        "\u{FEFF}",
+        "\u{FEFF}\n#",
+    ];
+    for (links, row) in rows.iter().flat_map(|row| [(&[][..], row), (&SHARE, row)]) {
+        let folder = Folder::with_links(links).and_row(row);
         let shown = pinged(&folder, 1);
         assert_eq!(
             shown[..2],

@@ -104,15 +104,26 @@ pub fn folder_of(class: &Class, random: &mut Random) -> Folder {
     Folder::with_links(&class.links).and_row(written(&class.row, random))
 }
 
-/// The file of a row: three bytes where the rest is the bench's, seven else; digits and ends of lines of any sort.
+/// The file of a row: three bytes where the rest is the bench's, seven else; blanks, letters, comments and ends of lines of any sort.
 fn written(row: &[Module], random: &mut Random) -> String {
-    let mut text = String::new();
+    let mut text = String::from(random.pick(&["", "\u{FEFF}"]));
     for module in row {
-        let line = line(module);
-        match random.per_cent(50) {
-            true => text.push_str(&line),
-            false => text.push_str(&line.to_lowercase()),
+        if random.per_cent(20) {
+            text.push_str(random.pick(&[
+                "\n",
+                " \t\r\n",
+                "# table 1\n",
+                "\t# dimmer 00 10 3A\r\n",
+            ]));
         }
+        let line = line(module);
+        let line = match random.per_cent(50) {
+            true => line.to_uppercase(),
+            false => line.to_lowercase(),
+        };
+        text.push_str(random.pick(&["", " ", "\t"]));
+        text.push_str(&line.replace(' ', random.pick(&[" ", "  ", "\t", " \t "])));
+        text.push_str(random.pick(&["", " ", "\t", " # Anna", "# Ben, 2b"]));
         text.push_str(random.pick(&["\n", "\r\n"]));
     }
     if random.per_cent(30) {

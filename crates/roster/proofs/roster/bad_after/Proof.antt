@@ -9,6 +9,5 @@ unfolding badAfter choose
 bad-after-spec =
     tie.close
     (tie.spec
-    (λ c. rw (ne-eqb _ 0 (c .if1 .taken)))
-    (λ c. rw (eq-eqb _ 0 (c .before .if1 .left), c .if2 .taken))
-    (λ c. rw (eq-eqb _ 0 (c .before .if1 .left), c .if2 .left)))
+    (λ c. rw (eq-eqb _ 0 (c .if1 .taken)))
+    (λ c. rw (ne-eqb _ 0 (c .if1 .left))))

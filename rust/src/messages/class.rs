@@ -1,8 +1,7 @@
 //! A class: a row of modules, the link memory that they share and the people who send to them.
 
-use super::message::near;
 use super::modules::{any_module_at, as_started};
-use super::people::{any_size, group, People};
+use super::people::{any_size, group, near, People};
 use super::seat::Seat;
 use crate::paper::links::RECORD;
 use crate::paper::{Address, Module};

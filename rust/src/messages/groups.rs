@@ -1,7 +1,6 @@
 //! Group broadcasts and cleanups.
 
-use super::message::near;
-use super::people;
+use super::people::{self, near};
 use super::seat::Seat;
 use crate::paper::Address;
 use crate::random::Random;

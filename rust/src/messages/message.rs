@@ -1,5 +1,6 @@
 //! Messages of all kinds and lengths, whole and damaged.
 
+use super::people::near;
 use super::seat::Seat;
 use super::{direct, groups};
 use crate::paper::Address;
@@ -120,10 +121,4 @@ fn receiver(random: &mut Random, seat: Seat) -> Address {
         1 => near(own, random),
         _ => own,
     }
-}
-
-/// The same address but for one bit.
-pub fn near(mut address: Address, random: &mut Random) -> Address {
-    address[random.below(3)] ^= 1 << random.below(8);
-    address
 }

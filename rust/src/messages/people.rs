@@ -80,3 +80,9 @@ pub fn group(random: &mut Random) -> u8 {
         false => random.byte(),
     }
 }
+
+/// The same address but for one bit.
+pub fn near(mut address: Address, random: &mut Random) -> Address {
+    address[random.below(3)] ^= 1 << random.below(8);
+    address
+}

@@ -1,7 +1,7 @@
 //! "Result numbers", 1 and 3 as far as the message alone gives cause for them: what it is, before anyone asks whose it is.
 
+use super::address::Address;
 use super::message::{Kind, Message};
-use super::module::Address;
 
 /// A message of a type that modules hear.
 #[derive(Clone, Copy, Debug)]

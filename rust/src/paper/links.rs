@@ -1,6 +1,6 @@
 //! "Link memory": records, the search through them with its count, and their names on the wire.
 
-use super::module::Address;
+use super::address::Address;
 
 pub const RECORD: usize = 8;
 const LONGEST: usize = 2048;

@@ -1,6 +1,6 @@
 //! "Message bytes": what nine or twenty-three bytes say.
 
-use super::module::Address;
+use super::address::Address;
 
 const EXTENDED: u8 = 0x10;
 const LARGEST_HOPS: u8 = 0x03;

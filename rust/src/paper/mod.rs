@@ -2,6 +2,7 @@
 
 #![forbid(unsafe_code)]
 
+pub mod address;
 pub mod change;
 pub mod checksum;
 pub mod class;
@@ -18,8 +19,9 @@ pub mod sockets;
 pub mod standard;
 pub mod step;
 
+pub use address::Address;
 pub use class::class_step;
-pub use module::{Address, Identity, Load, Module, ModuleKind, BENCH};
+pub use module::{Identity, Load, Module, ModuleKind, BENCH};
 pub use step::{step, Outcome};
 
 /// "The program": the longest reply, an ACK and 256 records.

@@ -1,9 +1,8 @@
 //! "The module we simulate", and the second kind of request 1: a module is these values and nothing else.
 
+use super::address::Address;
 use super::lamp::Lamp;
 use super::sockets::Sockets;
-
-pub type Address = [u8; 3];
 
 #[derive(Clone, Copy, Debug, PartialEq, Eq)]
 pub struct Identity {

@@ -1,8 +1,9 @@
 //! Replies: "Message bytes" for their flags and order, "Direct commands, extended" for their data.
 
+use super::address::Address;
 use super::links::{self, Record};
 use super::message::Message;
-use super::module::{Address, Module};
+use super::module::Module;
 
 const STANDARD: usize = 9;
 const EXTENDED: usize = 23;

@@ -1,10 +1,11 @@
 //! One call to one module: "Result numbers" with their order.
 
+use super::address::Address;
 use super::change::Change;
 use super::hear::{hear, Heard};
 use super::links::{self, Record};
 use super::message::{Kind, Message};
-use super::module::{Address, Load, Module};
+use super::module::{Load, Module};
 use super::reply::Reply;
 use super::{checksum, extended, groups, standard};
 

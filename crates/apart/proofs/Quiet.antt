@@ -10,69 +10,69 @@ use Rattle.basis.proofs.Choice.{either}
 use Rattle.wire.specs.declared.command.GroupCommand.{GroupCommand}
 use Rattle.wire.specs.declared.kind.Message.{Message}
 use Rattle.wire.specs.declared.kind.MessageKind.{MessageKind}
-use Rattle.wire.specs.Bytes.{fromOf, toOf, command1Of, is_whole}
-use Rattle.wire.specs.Commands.{groupCommandOf}
-use Rattle.wire.specs.Kinds.{isBroadcast, is_foreign, kind_of}
-use Rattle.wire.specs.Checksum.{isSumWrong}
+use Rattle.wire.specs.Bytes.{from_of, to_of, command1_of, is_whole}
+use Rattle.wire.specs.Commands.{group_command_of}
+use Rattle.wire.specs.Kinds.{is_broadcast, is_foreign, kind_of}
+use Rattle.wire.specs.Checksum.{is_sum_wrong}
 use Rattle.wire.specs.Reading.{read_of}
 use Rattle.links.specs.declared.search.Found.{Found}
-use Rattle.links.specs.Record.{isFit}
-use Rattle.links.specs.Search.{searchOf}
-use Rattle.links.proofs.Written.{length-kept}
+use Rattle.links.specs.Record.{is_fit}
+use Rattle.links.specs.Search.{search_of}
+use Rattle.links.proofs.Written.{length_kept}
 use Rattle.reply.specs.declared.due.Due.{Due}
 use Rattle.module.specs.declared.state.Module.{Module}
 use Rattle.module.specs.declared.deed.GroupDeed.{GroupDeed}
 use Rattle.module.specs.declared.plan.Writing.{Writing}
 use Rattle.decide.specs.declared.rule.Ruling.{Ruling}
-use Rattle.decide.specs.Dispatch.{groupDeedBy}
-use Rattle.decide.specs.Groups.{broadcastBy, broadcastPlan}
-use Rattle.decide.specs.Decide.{broadcastWanted}
-use Rattle.decide.specs.Ruling.{readRuling, rulingBy, rulingOf}
-use Rattle.device.specs.Step.{Step, linksAfter, step_of}
-use Rattle.row.proofs.Readings.{not-direct, not-cleanup}
+use Rattle.decide.specs.Dispatch.{group_deed_by}
+use Rattle.decide.specs.Groups.{broadcast_by, broadcast_plan}
+use Rattle.decide.specs.Decide.{broadcast_wanted}
+use Rattle.decide.specs.Ruling.{read_ruling, ruling_by, ruling_of}
+use Rattle.device.specs.Step.{Step, links_after, step_of}
+use Rattle.row.proofs.Readings.{not_direct, not-cleanup}
 
-writing-length : (l d : List ℕ) (writing : Writing) → length (linksAfter l d writing) ≡ length l
+writing-length : (l d : List ℕ) (writing : Writing) → length (links_after l d writing) ≡ length l
 writing-length l d Writing.Nothing = refl
-writing-length l d (Writing.Record k n) = length-kept l k (take n (drop 5 d))
+writing-length l d (Writing.Record k n) = length_kept l k (take n (drop 5 d))
 
 pub same_bytes : (m : Module) (l s room : List ℕ) → length (step_of m l s room).links ≡ length l
-same_bytes m l s room = either (λ (t : Step). length t.links ≡ length l) _ refl (writing-length l _ (rulingOf m l s).plan.writing)
+same_bytes m l s room = either (λ (t : Step). length t.links ≡ length l) _ refl (writing-length l _ (ruling_of m l s).plan.writing)
 
 -- a broadcast is never answered
-deed-quiet : (deed : GroupDeed) → (broadcastBy deed).due ≡ Due.Nothing
-deed-quiet (GroupDeed.Done load) = refl
-deed-quiet GroupDeed.Unlisted = refl
+deed_quiet : (deed : GroupDeed) → (broadcast_by deed).due ≡ Due.Nothing
+deed_quiet (GroupDeed.Done load) = refl
+deed_quiet GroupDeed.Unlisted = refl
 
-plan-quiet : (m : Module) (command : GroupCommand) (found : Found) → (broadcastPlan m.load command found).due ≡ Due.Nothing
-plan-quiet m command Found.NoSearch = refl
-plan-quiet m command (Found.Match link) = deed-quiet (groupDeedBy m.load command link)
-plan-quiet m command Found.EndMark = refl
-plan-quiet m command Found.MemoryEnd = refl
+plan_quiet : (m : Module) (command : GroupCommand) (found : Found) → (broadcast_plan m.load command found).due ≡ Due.Nothing
+plan_quiet m command Found.NoSearch = refl
+plan_quiet m command (Found.Match link) = deed_quiet (group_deed_by m.load command link)
+plan_quiet m command Found.EndMark = refl
+plan_quiet m command Found.MemoryEnd = refl
 
-module _ (m : Module) (l s room : List ℕ) (b : isBroadcast s ≡ true) where
+module _ (m : Module) (l s room : List ℕ) (b : is_broadcast s ≡ true) where
   abbrev Quiet : Message → Type 0
-  Quiet h = (readRuling m l h.«data» h.reading).plan.due ≡ Due.Nothing
+  Quiet h = (read_ruling m l h.«data» h.reading).plan.due ≡ Due.Nothing
 
-  kind : kind_of s ≡ MessageKind.Broadcast (fromOf s) (toOf s) (groupCommandOf (command1Of s))
+  kind : kind_of s ≡ MessageKind.Broadcast (from_of s) (to_of s) (group_command_of (command1_of s))
   unfolding kind_of choose
-  kind = rw (not-direct s b, not-cleanup s b)
+  kind = rw (not_direct s b, not-cleanup s b)
 
-  heard-quiet : Quiet (read_of s m.identity.address)
+  heard_quiet : Quiet (read_of s m.identity.address)
   unfolding read_of
-  heard-quiet =
+  heard_quiet =
       either Quiet (is_whole s)
       (either Quiet (is_foreign s m.identity.address) refl
-      (either Quiet (isSumWrong s) refl (rw kind (plan-quiet m (groupCommandOf (command1Of s)) (searchOf l (broadcastWanted (fromOf s) (toOf s) (groupCommandOf (command1Of s)))).found))))
+      (either Quiet (is_sum_wrong s) refl (rw kind (plan_quiet m (group_command_of (command1_of s)) (search_of l (broadcast_wanted (from_of s) (to_of s) (group_command_of (command1_of s)))).found))))
       refl
 
-  nothing-due : (rulingOf m l s).plan.due ≡ Due.Nothing
-  unfolding rulingBy
-  nothing-due = either (λ (r : Ruling). r.plan.due ≡ Due.Nothing) (isFit l) heard-quiet refl
+  nothing_due : (ruling_of m l s).plan.due ≡ Due.Nothing
+  unfolding ruling_by
+  nothing_due = either (λ (r : Ruling). r.plan.due ≡ Due.Nothing) (is_fit l) heard_quiet refl
 
-  pub no-reply : (step_of m l s room).reply ≡ []
+  pub no_reply : (step_of m l s room).reply ≡ []
   unfolding choose
-  no-reply = rw (nothing-due, le-ltb (length room) 0 zero-le)
+  no_reply = rw (nothing_due, le-ltb (length room) 0 zero-le)
 
-  pub same-room : (step_of m l s room).room ≡ room
+  pub same_room : (step_of m l s room).room ≡ room
   unfolding choose
-  same-room = rw (nothing-due, le-ltb (length room) 0 zero-le)
+  same_room = rw (nothing_due, le-ltb (length room) 0 zero-le)

@@ -10,7 +10,7 @@ use lib.ListN.{length, take, drop}
 use lib.Seq.{length-take-le, take_at, drop_at, take-take, drop-drop, take-add}
 use borrow.Author.Tests.{ltb-true, ltb-false}
 use borrow.Rule.Slice.PartMut.{mid_of, put_mid, same_len_mid, mid_len, take_put, drop_put}
-use Rattle.class.specs.Seat.{shareAt, withShare}
+use Rattle.class.specs.Seat.{share_at, with_share}
 
 -- a part is the end of a beginning
 end_of : (p w : ℕ) (l : List ℕ) → p ≤ length l → take w (drop p l) ≡ drop p (take (p + w) l)
@@ -28,7 +28,7 @@ module _ (w i : ℕ) (y l : List ℕ) (len : length y ≡ w) (fits : i * w + w �
   a = i * w
 
   abbrev put : List ℕ
-  put = withShare w i y l
+  put = with_share w i y l
 
   width_is : a + w - a ≡ w
   width_is = omega arith
@@ -36,10 +36,10 @@ module _ (w i : ℕ) (y l : List ℕ) (len : length y ≡ w) (fits : i * w + w �
   pub length-put : length put ≡ length l
   length-put = same_len_mid a w l y (len ∙ sym (subst (λ (k : ℕ). length (mid_of a k l) ≡ k) width_is (mid_len a (a + w) l fits)))
 
-  pub own-share : shareAt w i put ≡ y
-  own-share = ap (take w) (drop_at (take a l) (y ++ drop w (drop a l)) a (length-take-le a l (omega arith))) ∙ take_at y (drop w (drop a l)) w len
+  pub own_share : share_at w i put ≡ y
+  own_share = ap (take w) (drop_at (take a l) (y ++ drop w (drop a l)) a (length-take-le a l (omega arith))) ∙ take_at y (drop w (drop a l)) w len
 
-  before : (j : ℕ) → j < i → shareAt w j put ≡ shareAt w j l
+  before : (j : ℕ) → j < i → share_at w j put ≡ share_at w j l
   before j h =
       let ends : j * w + w ≤ a = next_one w j i h in
       let there : j * w ≤ length l = omega (arith, ends, fits) in
@@ -51,16 +51,16 @@ module _ (w i : ℕ) (y l : List ℕ) (len : length y ≡ w) (fits : i * w + w �
   from_end : drop (a + w) put ≡ drop (a + w) l
   from_end = subst (λ (k : ℕ). drop (a + w) (put_mid a k l y) ≡ drop (a + w) l) width_is (drop_put a (a + w) l y (omega arith) fits (len ∙ sym width_is))
 
-  behind : (j : ℕ) → i < j → shareAt w j put ≡ shareAt w j l
+  behind : (j : ℕ) → i < j → share_at w j put ≡ share_at w j l
   behind j h =
       let begins : a + w ≤ j * w = next_one w i j h in
       let way : a + w + (j * w - (a + w)) ≡ j * w = omega (arith, begins) in
       let further : (x : List ℕ) → drop (j * w - (a + w)) (drop (a + w) x) ≡ drop (j * w) x = λ x. drop-drop (j * w - (a + w)) (a + w) x ∙ ap (λ (k : ℕ). drop k x) way in
       ap (take w) (sym (further put) ∙ ap (drop (j * w - (a + w))) from_end ∙ further l)
 
-  pub other-share : (j : ℕ) → (j ≡ i → ⊥) → shareAt w j put ≡ shareAt w j l
-  other-share j apart = go (ltb j i) refl
+  pub other_share : (j : ℕ) → (j ≡ i → ⊥) → share_at w j put ≡ share_at w j l
+  other_share j apart = go (ltb j i) refl
     where
-      go : (b : Bool) → ltb j i ≡ b → shareAt w j put ≡ shareAt w j l
+      go : (b : Bool) → ltb j i ≡ b → share_at w j put ≡ share_at w j l
       go true q = before j (ltb-true j i q)
       go false q = behind j (omega (arith, ltb-false j i q, apart))

@@ -1,11 +1,11 @@
 -- Result numbers of the class: 11, 9, 1, 3, 10, in this order, then the seat's own (document 02, "One bench for a class").
 use Rattle.std.specs.Prelude.{ℕ, ◌%◌, ◌≤◌, ◌<◌, ◌≡◌, true, false, List, [], length}
-use Rattle.wire.specs.Bytes.{toOf, isExtended}
-use Rattle.wire.specs.Kinds.{isDirect, isCleanup, isBroadcast}
+use Rattle.wire.specs.Bytes.{to_of, is_extended}
+use Rattle.wire.specs.Kinds.{is_direct, is_cleanup, is_broadcast}
 use Rattle.results.specs.declared.Outcome.{Outcome}
 use Rattle.device.specs.Run.{Call}
 use Rattle.row.specs.declared.outcome.ClassOutcome.{ClassOutcome}
-use Rattle.row.specs.Number.{classNumberOf}
+use Rattle.row.specs.Number.{class_number_of}
 use Rattle.class.specs.Seat.{name_at}
 use Rattle.promises.specs.Numbers.{When1}
 use Rattle.apart.specs.Lesson.{Class, tell, leaves, width}
@@ -29,12 +29,12 @@ pub record When9 (c : Class) : Type 0 where
 
 -- the other causes of 3: another type; extended but not direct
 pub data Unheard (s : List ℕ) : Type 0 where
-  other-type : isDirect s ≡ false → isCleanup s ≡ false → isBroadcast s ≡ false → Unheard s
-  long-not-direct : isExtended s ≡ true → isDirect s ≡ false → Unheard s
+  other-type : is_direct s ≡ false → is_cleanup s ≡ false → is_broadcast s ≡ false → Unheard s
+  long-not-direct : is_extended s ≡ true → is_direct s ≡ false → Unheard s
 
 -- 10: no module has that To address
 abbrev pub When10 : Class → List ℕ → Type 0
-When10 c s = (isBroadcast s ≡ false) × ((i : ℕ) → i < length c.row → ¬ (name_at c.row i ≡ toOf s))
+When10 c s = (is_broadcast s ≡ false) × ((i : ℕ) → i < length c.row → ¬ (name_at c.row i ≡ to_of s))
 
 -- refused by the row: that number, nothing sent and nothing altered
 pub record Refused (c : Class) (x : Call) (o : ClassOutcome) : Type 0 where
@@ -56,4 +56,4 @@ RefusedInOrder = (c : Class) (x : Call) → InOrder c x
 
 -- the numbers are 0 to 11
 abbrev pub ClassNumbered : Type 0
-ClassNumbered = (o : ClassOutcome) → classNumberOf o ≤ 11
+ClassNumbered = (o : ClassOutcome) → class_number_of o ≤ 11

@@ -4,7 +4,7 @@ use mathlib.Core.Path.{◌≡◌, sym, ◌∙◌}
 use mathlib.Core.List.{List}
 use Rattle.wire.specs.declared.address.Address.{Address}
 use Rattle.reply.specs.declared.due.Due.{Due}
-use Rattle.reply.specs.Reply.{replyOf}
+use Rattle.reply.specs.Reply.{reply_of}
 use Rattle.reply.specs.Sending.{Sending}
 use Rattle.module.specs.declared.state.Module.{Module}
 use Rattle.device.specs.Step.{Step, Comes}
@@ -21,7 +21,7 @@ use Rattle.around.specs.OneAnswer.{Only, Delivered, Called, ClassCalled, SeatsCa
 by_value : {A : Type 0} (z : A) → Only (λ (r : A). r ≡ z)
 by_value z x y p q = p ∙ sym q
 
-sending : (own : Address) (l : List ℕ) (due : Due) (room : List ℕ) → Only (λ (d : Delivered). Sending (replyOf own l due) room d.answer d.room)
+sending : (own : Address) (l : List ℕ) (due : Due) (room : List ℕ) → Only (λ (d : Delivered). Sending (reply_of own l due) room d.answer d.room)
 sending own l due room x y p q = λ i. record { answer = by_value _ _ _ p.answers q.answers i; room = by_value _ _ _ p.leaves q.leaves i }
 
 stepping : (t : Step) → Only (λ (d : Called). Comes t d.answer d.links d.room)
@@ -50,8 +50,8 @@ answering t p q =
       whom = by_value _ _ _ p.whom q.whom i;
     }
 
-telling-class : (t : ClassStep) → Only (λ (d : ClassCalled). ClassComes t d.answer d.row d.links d.room)
-telling-class t x y p q =
+telling_class : (t : ClassStep) → Only (λ (d : ClassCalled). ClassComes t d.answer d.row d.links d.room)
+telling_class t x y p q =
     λ i.
     record {
       answer = answering t p q i;
@@ -60,8 +60,8 @@ telling-class t x y p q =
       room = by_value _ _ _ p.room_after q.room_after i;
     }
 
-telling-seats : (t : ClassStep) → Only (λ (d : SeatsCalled). SeatsCome t d.answer d.links d.room)
-telling-seats t x y p q =
+telling_seats : (t : ClassStep) → Only (λ (d : SeatsCalled). SeatsCome t d.answer d.links d.room)
+telling_seats t x y p q =
     λ i.
     record {
       answer = record { answer = answering t p q i; seats = by_value _ _ _ p.seats q.seats i };
@@ -106,8 +106,8 @@ embedded t x y p q =
       report = by_value _ _ _ p.report-after q.report-after i;
     }
 
-pub each-once : EachOnce
-each-once =
+pub each_once : EachOnce
+each_once =
     record {
       basis-lay = λ _ _. by_value _;
       basis-min = λ _ _. by_value _;
@@ -160,8 +160,8 @@ each-once =
       row_open = λ _ _ _. by_value _;
       row-noticed = λ _ _ _ _. by_value _;
       row-settle = λ _. by_value _;
-      class-class-step = λ _ _ _ _. telling-class _;
-      class-class-seats = λ _ _ _ _ _. telling-seats _;
+      class-class-step = λ _ _ _ _. telling_class _;
+      class-class-seats = λ _ _ _ _ _. telling_seats _;
       seating-heed = λ s _ _ _. heeding _ s;
       seating-alone = λ _. by_value _;
       seating-class-with = λ _ _. by_value _;

@@ -1,30 +1,30 @@
 -- One answer only: two results that a public function's promise allows are equal ("What the promises have to say").
 use Rattle.std.specs.Prelude.{ℕ, ◌-◌, min, ◌≡◌, Bool, List, [], ◌∷◌, drop}
-use Rattle.basis.specs.Laid.{laid, laidIfFits}
+use Rattle.basis.specs.Laid.{laid, laid_if_fits}
 use Rattle.wire.specs.declared.address.Address.{Address}
 use Rattle.wire.specs.declared.request.Request.{Request}
 use Rattle.wire.specs.declared.command.Command.{Command}
 use Rattle.wire.specs.declared.command.GroupCommand.{GroupCommand}
 use Rattle.wire.specs.declared.kind.MessageKind.{MessageKind}
 use Rattle.wire.specs.declared.kind.Message.{Message}
-use Rattle.wire.specs.Bytes.{equals, isExtended}
-use Rattle.wire.specs.Kinds.{heardAs}
-use Rattle.wire.specs.Reading.{heardIn, ReadPromise}
+use Rattle.wire.specs.Bytes.{equals, is_extended}
+use Rattle.wire.specs.Kinds.{heard_as}
+use Rattle.wire.specs.Reading.{heard_in, ReadPromise}
 use Rattle.links.specs.declared.memory.Link.{Link}
 use Rattle.links.specs.declared.search.Wanted.{Wanted}
 use Rattle.links.specs.declared.search.Found.{Found}
 use Rattle.links.specs.declared.search.Searched.{Searched}
 use Rattle.links.specs.declared.name.Place.{Place}
-use Rattle.links.specs.Record.{isFit, records, recordOrBlank, isEndMark}
-use Rattle.links.specs.Name.{name_of, placeOf}
-use Rattle.links.specs.Mark.{upToMark}
-use Rattle.links.specs.Search.{searchOf, isFound}
-use Rattle.links.specs.Write.{writtenIfThere}
+use Rattle.links.specs.Record.{is_fit, records, record_or_blank, is_end_mark}
+use Rattle.links.specs.Name.{name_of, place_of}
+use Rattle.links.specs.Mark.{up_to_mark}
+use Rattle.links.specs.Search.{search_of, is_found}
+use Rattle.links.specs.Write.{written_if_there}
 use Rattle.reply.specs.declared.due.ReplyType.{ReplyType}
 use Rattle.reply.specs.declared.due.Head.{Head}
 use Rattle.reply.specs.declared.due.Due.{Due}
 use Rattle.reply.specs.declared.send.Sent.{Sent}
-use Rattle.reply.specs.Reply.{replyOf}
+use Rattle.reply.specs.Reply.{reply_of}
 use Rattle.reply.specs.Sending.{Sending}
 use Rattle.results.specs.declared.Outcome.{Outcome}
 use Rattle.results.specs.Number.{number_of}
@@ -33,18 +33,18 @@ use Rattle.load.specs.declared.entry.Properties.{Properties}
 use Rattle.load.specs.declared.state.Lamp.{Lamp}
 use Rattle.load.specs.declared.state.Sockets.{Sockets}
 use Rattle.load.specs.declared.state.Load.{Load}
-use Rattle.load.specs.Fresh.{freshLamp, freshSockets}
+use Rattle.load.specs.Fresh.{fresh_lamp, fresh_sockets}
 use Rattle.module.specs.declared.state.Module.{Module}
 use Rattle.module.specs.declared.change.Change.{Change}
 use Rattle.module.specs.declared.deed.Deed.{Deed}
 use Rattle.module.specs.declared.deed.GroupDeed.{GroupDeed}
 use Rattle.module.specs.declared.plan.Plan.{Plan}
-use Rattle.module.specs.Module.{freshDimmer, freshOutlet}
+use Rattle.module.specs.Module.{fresh_dimmer, fresh_outlet}
 use Rattle.module.specs.Change.{apply}
 use Rattle.module.specs.Deed
 use Rattle.module.specs.Plan
-use Rattle.shared.specs.Extended.{shownDeed}
-use Rattle.shared.specs.Table.{sharedDeed}
+use Rattle.shared.specs.Extended.{shown_deed}
+use Rattle.shared.specs.Table.{shared_deed}
 use Rattle.dimmer.specs.declared.lamp.LampEntry.{LampEntry}
 use Rattle.dimmer.specs.declared.groups.LampGroup.{LampGroup}
 use Rattle.dimmer.specs.Table as dimmer
@@ -54,37 +54,37 @@ use Rattle.outlet.specs.declared.groups.SocketsGroup.{SocketsGroup}
 use Rattle.outlet.specs.Table as outlet
 use Rattle.outlet.specs.Groups as outlet-groups
 use Rattle.decide.specs.declared.rule.Ruling.{Ruling}
-use Rattle.decide.specs.Ruling.{rulingBy}
+use Rattle.decide.specs.Ruling.{ruling_by}
 use Rattle.device.specs.declared.step.Answer.{Answer}
-use Rattle.device.specs.Step.{stepBy, Comes, StepPromise}
+use Rattle.device.specs.Step.{step_by, Comes, StepPromise}
 use Rattle.row.specs.declared.outcome.ClassOutcome.{ClassOutcome}
 use Rattle.row.specs.declared.progress.ClassAnswer.{ClassAnswer}
 use Rattle.row.specs.declared.progress.Progress.{Progress}
 use Rattle.class.specs.declared.seats.SeatsAnswer.{SeatsAnswer}
-use Rattle.row.specs.Number.{classNumberOf}
-use Rattle.row.specs.Round.{silent, ended, opened, noticed, settledIfFew}
+use Rattle.row.specs.Number.{class_number_of}
+use Rattle.row.specs.Round.{silent, ended, opened, noticed, settled_if_few}
 use Rattle.class.specs.Class.{class_of, ClassComes}
-use Rattle.class.specs.Seats.{seatsOf, SeatsCome}
+use Rattle.class.specs.Seats.{seats_of, SeatsCome}
 use Rattle.seating.specs.declared.heed.Seating.{Seating}
 use Rattle.seating.specs.declared.heed.Heeded.{Heeded}
-use Rattle.seating.specs.Heed.{heedOf, Heeds}
-use Rattle.seating.specs.Start.{aloneWith, classWith}
+use Rattle.seating.specs.Heed.{heed_of, Heeds}
+use Rattle.seating.specs.Start.{alone_with, class_with}
 use Rattle.modem.specs.declared.arrived.Seen.{Seen}
-use Rattle.modem.specs.Arrived.{seekOf}
+use Rattle.modem.specs.Arrived.{seek_of}
 use Rattle.modem.specs.Serve.{Turn, ServePromise}
 use Rattle.roster.specs.declared.word.Kind.{Kind}
 use Rattle.roster.specs.declared.word.Meaning.{Meaning}
 use Rattle.roster.specs.declared.line.Line.{Line}
 use Rattle.roster.specs.declared.roster.Roster.{Roster}
-use Rattle.roster.specs.Word.{isSame, named}
-use Rattle.roster.specs.Seat.{freshAs, freshAt, benchOf}
+use Rattle.roster.specs.Word.{is_same, named}
+use Rattle.roster.specs.Seat.{fresh_as, fresh_at, bench_of}
 use Rattle.roster.specs.Line.{line_of}
-use Rattle.roster.specs.Roster.{rosterOf}
+use Rattle.roster.specs.Roster.{roster_of}
 use Rattle.image.specs.declared.held.Held.{Held}
-use Rattle.image.specs.Image.{isImage, heldIn, storedIfOwn}
+use Rattle.image.specs.Image.{is_image, held_in, stored_if_own}
 use Rattle.image.specs.Returned.{Returned, Returns}
-use Rattle.embed.specs.Call.{returnedOf}
-use Rattle.embed_class.specs.ClassCall.{classReturnedOf}
+use Rattle.embed.specs.Call.{returned_of}
+use Rattle.embed_class.specs.ClassCall.{class_returned_of}
 
 -- at most one result meets the promise
 abbrev pub Only : {A : Type 0} → (A → Type 0) → Type 0
@@ -122,85 +122,85 @@ pub record HeedCalled : Type 0 where
 
 -- every public function by its crate and its name, lowest first
 pub record EachOnce : Type 0 where
-  pub basis-lay : (room bytes : List ℕ) → Only (λ (after : List ℕ). after ≡ laidIfFits room bytes)
+  pub basis-lay : (room bytes : List ℕ) → Only (λ (after : List ℕ). after ≡ laid_if_fits room bytes)
   pub basis-min : (a b : ℕ) → Only (λ (r : ℕ). r ≡ min a b)
   pub wire-read : (s : List ℕ) (own : Address) → Only (ReadPromise s own)
-  pub wire-hear : (s : List ℕ) → Only (λ (r : Message). r ≡ heardIn s)
-  pub wire-heard-as : (s : List ℕ) → Only (λ (r : MessageKind). r ≡ heardAs s)
-  pub wire-is-extended : (s : List ℕ) → Only (λ (r : Bool). r ≡ isExtended s)
+  pub wire-hear : (s : List ℕ) → Only (λ (r : Message). r ≡ heard_in s)
+  pub wire-heard-as : (s : List ℕ) → Only (λ (r : MessageKind). r ≡ heard_as s)
+  pub wire-is-extended : (s : List ℕ) → Only (λ (r : Bool). r ≡ is_extended s)
   pub wire-equals : (a b : Address) → Only (λ (r : Bool). r ≡ equals a b)
-  pub links-is-fit : (l : List ℕ) → Only (λ (r : Bool). r ≡ isFit l)
+  pub links-is-fit : (l : List ℕ) → Only (λ (r : Bool). r ≡ is_fit l)
   pub links-records : (l : List ℕ) → Only (λ (r : ℕ). r ≡ records l)
-  pub links-record-or-blank : (l : List ℕ) (k : ℕ) → Only (λ (r : List ℕ). r ≡ recordOrBlank l k)
-  pub links-is-end-mark : (r : List ℕ) → Only (λ (b : Bool). b ≡ isEndMark r)
-  pub links-up-to-mark : (l : List ℕ) (k n : ℕ) → Only (λ (r : ℕ). r ≡ upToMark l (min n (records l - k)) k)
-  pub links-search : (l : List ℕ) (w : Wanted) → Only (λ (r : Searched). r ≡ searchOf l w)
-  pub links-is-found : (f : Found) → Only (λ (r : Bool). r ≡ isFound f)
+  pub links-record-or-blank : (l : List ℕ) (k : ℕ) → Only (λ (r : List ℕ). r ≡ record_or_blank l k)
+  pub links-is-end-mark : (r : List ℕ) → Only (λ (b : Bool). b ≡ is_end_mark r)
+  pub links-up-to-mark : (l : List ℕ) (k n : ℕ) → Only (λ (r : ℕ). r ≡ up_to_mark l (min n (records l - k)) k)
+  pub links-search : (l : List ℕ) (w : Wanted) → Only (λ (r : Searched). r ≡ search_of l w)
+  pub links-is-found : (f : Found) → Only (λ (r : Bool). r ≡ is_found f)
   pub links-name-of : (k : ℕ) → Only (λ (r : ℕ). r ≡ name_of k)
-  pub links-place-of : (n address : ℕ) → Only (λ (r : Place). r ≡ placeOf n address)
-  pub links-write : (l : List ℕ) (k : ℕ) (bytes : List ℕ) → Only (λ (after : List ℕ). after ≡ writtenIfThere l k bytes)
+  pub links-place-of : (n address : ℕ) → Only (λ (r : Place). r ≡ place_of n address)
+  pub links-write : (l : List ℕ) (k : ℕ) (bytes : List ℕ) → Only (λ (after : List ℕ). after ≡ written_if_there l k bytes)
   pub reply-send : (own : Address) (l : List ℕ) (due : Due) (room : List ℕ)
-      → Only (λ (d : Delivered). Sending (replyOf own l due) room d.answer d.room)
+      → Only (λ (d : Delivered). Sending (reply_of own l due) room d.answer d.room)
   pub results-number : (o : Outcome) → Only (λ (r : ℕ). r ≡ number_of o)
-  pub load-fresh-lamp : Only (λ (r : Lamp). r ≡ freshLamp)
-  pub load-fresh-sockets : Only (λ (r : Sockets). r ≡ freshSockets)
-  pub module-fresh-dimmer : (i : Identity) → Only (λ (r : Module). r ≡ freshDimmer i)
-  pub module-fresh-outlet : (i : Identity) → Only (λ (r : Module). r ≡ freshOutlet i)
+  pub load-fresh-lamp : Only (λ (r : Lamp). r ≡ fresh_lamp)
+  pub load-fresh-sockets : Only (λ (r : Sockets). r ≡ fresh_sockets)
+  pub module-fresh-dimmer : (i : Identity) → Only (λ (r : Module). r ≡ fresh_dimmer i)
+  pub module-fresh-outlet : (i : Identity) → Only (λ (r : Module). r ≡ fresh_outlet i)
   pub module-apply : (m : Module) (change : Change) → Only (λ (r : Module). r ≡ apply change m)
   pub module-acked : (change : Change) → Only (λ (r : Deed). r ≡ Deed.acked change)
   pub module-telling : (x : ℕ) → Only (λ (r : Deed). r ≡ Deed.telling x)
   pub module-showing : (x : ℕ) → Only (λ (r : Deed). r ≡ Deed.showing x)
   pub module-limited : (a b x : ℕ) (deed : Deed) → Only (λ (r : Deed). r ≡ Deed.limited a b x deed)
-  pub module-grouped-by : (load : Load) (isListed : Bool) → Only (λ (r : GroupDeed). r ≡ Deed.groupedBy load isListed)
+  pub module-grouped-by : (load : Load) (is_listed : Bool) → Only (λ (r : GroupDeed). r ≡ Deed.grouped_by load is_listed)
   pub module-headed : (type : ReplyType) (q : Request) (one two : ℕ) → Only (λ (r : Head). r ≡ Plan.headed type q one two)
   pub module-done : (change : Change) (due : Due) → Only (λ (r : Plan). r ≡ Plan.done change due)
   pub module-wrote : (k n : ℕ) (due : Due) → Only (λ (r : Plan). r ≡ Plan.wrote k n due)
   pub module-refused : (o : Outcome) (due : Due) → Only (λ (r : Plan). r ≡ Plan.refused o due)
   pub module-unlinked : (type : ReplyType) (q : Request) → Only (λ (r : Plan). r ≡ Plan.unlinked type q)
   pub module-unlisted : (type : ReplyType) (q : Request) → Only (λ (r : Plan). r ≡ Plan.unlisted type q)
-  pub module-deed-plan : (m : Module) (q : Request) (deed : Deed) → Only (λ (r : Plan). r ≡ Plan.deedPlan m q deed)
-  pub shared-shown-deed : (m : Module) (data1 : ℕ) (p : Properties) → Only (λ (r : Deed). r ≡ shownDeed m data1 p)
-  pub shared-shared-deed : (m : Module) (q : Request) (d : List ℕ) (n : ℕ) (command : Command) → Only (λ (r : Deed). r ≡ sharedDeed m q d n command)
+  pub module-deed-plan : (m : Module) (q : Request) (deed : Deed) → Only (λ (r : Plan). r ≡ Plan.deed_plan m q deed)
+  pub shared-shown-deed : (m : Module) (data1 : ℕ) (p : Properties) → Only (λ (r : Deed). r ≡ shown_deed m data1 p)
+  pub shared-shared-deed : (m : Module) (q : Request) (d : List ℕ) (n : ℕ) (command : Command) → Only (λ (r : Deed). r ≡ shared_deed m q d n command)
   pub dimmer-entry-of : (lamp : Lamp) (q : Request) (d : List ℕ) (command : Command) → Only (λ (r : LampEntry). r ≡ dimmer.entry_of lamp q d command)
   pub dimmer-group-of : (lamp : Lamp) (command : GroupCommand) (link : Link) → Only (λ (r : LampGroup). r ≡ dimmer-groups.group_of lamp command link)
   pub outlet-entry-of : (sockets : Sockets) (q : Request) (d : List ℕ) (command : Command)
       → Only (λ (r : SocketsEntry). r ≡ outlet.entry_of sockets q d command)
   pub outlet-group-of : (sockets : Sockets) (command : GroupCommand) (link : Link)
       → Only (λ (r : SocketsGroup). r ≡ outlet-groups.group_of sockets command link)
-  pub decide-ruling-by : (m : Module) (l : List ℕ) (message : Message) → Only (λ (r : Ruling). r ≡ rulingBy m l message)
+  pub decide-ruling-by : (m : Module) (l : List ℕ) (message : Message) → Only (λ (r : Ruling). r ≡ ruling_by m l message)
   pub device-step : (m : Module) (l s room : List ℕ) → Only (λ (d : Called). StepPromise m l s room d.answer d.links d.room)
   pub device-serve : (m : Module) (l : List ℕ) (heard : Message) (room : List ℕ)
-      → Only (λ (d : Called). Comes (stepBy m l heard room) d.answer d.links d.room)
-  pub row-class-number : (o : ClassOutcome) → Only (λ (r : ℕ). r ≡ classNumberOf o)
+      → Only (λ (d : Called). Comes (step_by m l heard room) d.answer d.links d.room)
+  pub row-class-number : (o : ClassOutcome) → Only (λ (r : ℕ). r ≡ class_number_of o)
   pub row-silent : (o : ClassOutcome) → Only (λ (r : ClassAnswer). r ≡ silent o)
   pub row-ended : (t : Progress) (answer : ClassAnswer) → Only (λ (r : Progress). r ≡ ended t answer)
   pub row_open : (n bytes : ℕ) (heard : Message) → Only (λ (r : Progress). r ≡ opened n bytes heard)
   pub row-noticed : (names : List Address) (n bytes : ℕ) (heard : Message) → Only (λ (r : Progress). r ≡ noticed names n bytes heard)
-  pub row-settle : (t : Progress) → Only (λ (r : Progress). r ≡ settledIfFew t)
+  pub row-settle : (t : Progress) → Only (λ (r : Progress). r ≡ settled_if_few t)
   pub class-class-step : (row : List Module) (l s room : List ℕ)
       → Only (λ (d : ClassCalled). ClassComes (class_of row l s room) d.answer d.row d.links d.room)
   pub class-class-seats : (seats : List Module) (n : ℕ) (l s room : List ℕ)
-      → Only (λ (d : SeatsCalled). SeatsCome (seatsOf seats n l s room) d.answer d.links d.room)
+      → Only (λ (d : SeatsCalled). SeatsCome (seats_of seats n l s room) d.answer d.links d.room)
   pub seating-heed : (s : Seating) (l message room : List ℕ)
-      → Only (λ (d : HeedCalled). Heeds (heedOf s l message room) s d.heeded d.links d.room)
-  pub seating-alone : (m : Module) → Only (λ (r : Seating). r ≡ aloneWith m)
-  pub seating-class-with : (row : List Module) (count : ℕ) → Only (λ (r : Seating). r ≡ classWith row count)
-  pub modem-seek : (s : List ℕ) → Only (λ (r : Seen). r ≡ seekOf s)
+      → Only (λ (d : HeedCalled). Heeds (heed_of s l message room) s d.heeded d.links d.room)
+  pub seating-alone : (m : Module) → Only (λ (r : Seating). r ≡ alone_with m)
+  pub seating-class-with : (row : List Module) (count : ℕ) → Only (λ (r : Seating). r ≡ class_with row count)
+  pub modem-seek : (s : List ℕ) → Only (λ (r : Seen). r ≡ seek_of s)
   pub modem-keep : (held : List ℕ) (from : ℕ) → Only (λ (after : List ℕ). after ≡ laid (drop from held) held)
   pub modem-serve : (s : Seating) (l frame room out : List ℕ)
       → Only (λ (t : Turn). ServePromise s l frame room out t.served t.links t.room t.out)
   pub roster-named : (word : List ℕ) → Only (λ (r : Meaning). r ≡ named word)
-  pub roster-is-same : (a b : List ℕ) → Only (λ (r : Bool). r ≡ isSame a b)
-  pub roster-bench-of : (kind : Kind) → Only (λ (r : Module). r ≡ benchOf kind)
-  pub roster-fresh-at : (kind : Kind) (a : Address) → Only (λ (r : Module). r ≡ freshAt kind a)
-  pub roster-fresh-as : (kind : Kind) (i : Identity) → Only (λ (r : Module). r ≡ freshAs kind i)
+  pub roster-is-same : (a b : List ℕ) → Only (λ (r : Bool). r ≡ is_same a b)
+  pub roster-bench-of : (kind : Kind) → Only (λ (r : Module). r ≡ bench_of kind)
+  pub roster-fresh-at : (kind : Kind) (a : Address) → Only (λ (r : Module). r ≡ fresh_at kind a)
+  pub roster-fresh-as : (kind : Kind) (i : Identity) → Only (λ (r : Module). r ≡ fresh_as kind i)
   pub roster-line-of : (line : List ℕ) → Only (λ (r : Line). r ≡ line_of line)
-  pub roster-roster-of : (text : List ℕ) → Only (λ (r : Roster). r ≡ rosterOf text)
-  pub image-held-in : (image : List ℕ) → Only (λ (r : Held). r ≡ heldIn image)
-  pub image-is-image : (image : List ℕ) → Only (λ (r : Bool). r ≡ isImage image)
-  pub image-store : (image : List ℕ) (m : Module) → Only (λ (after : List ℕ). after ≡ storedIfOwn image m)
-  pub image-tell : (report : List ℕ) (sent read : ℕ) → Only (λ (after : List ℕ). after ≡ laidIfFits report (sent ∷ read ∷ []))
+  pub roster-roster-of : (text : List ℕ) → Only (λ (r : Roster). r ≡ roster_of text)
+  pub image-held-in : (image : List ℕ) → Only (λ (r : Held). r ≡ held_in image)
+  pub image-is-image : (image : List ℕ) → Only (λ (r : Bool). r ≡ is_image image)
+  pub image-store : (image : List ℕ) (m : Module) → Only (λ (after : List ℕ). after ≡ stored_if_own image m)
+  pub image-tell : (report : List ℕ) (sent read : ℕ) → Only (λ (after : List ℕ). after ≡ laid_if_fits report (sent ∷ read ∷ []))
   pub embed-dreelish-step : (image l s room report : List ℕ)
-      → Only (λ (c : Returned). Returns (returnedOf image l s room report) c.number c.image c.links c.room c.report)
+      → Only (λ (c : Returned). Returns (returned_of image l s room report) c.number c.image c.links c.room c.report)
   pub embed-class-dreelish-class-step : (images : List ℕ) (n : ℕ) (l s room report : List ℕ)
-      → Only (λ (c : Returned). Returns (classReturnedOf images n l s room report) c.number c.image c.links c.room c.report)
+      → Only (λ (c : Returned). Returns (class_returned_of images n l s room report) c.number c.image c.links c.room c.report)

@@ -2,29 +2,29 @@
 use Rattle.std.specs.Prelude.{ℕ, ◌/◌, ◌%◌, ◌≤◌, ◌<◌, ◌≡◌, true, false, length, get_or}
 use mathlib.Core.List.{List, [], ◌∷◌, ◌++◌, map, flatten}
 use Rattle.wire.specs.Bytes.{flags_of, is_whole}
-use Rattle.links.specs.Record.{isFit}
+use Rattle.links.specs.Record.{is_fit}
 use Rattle.module.specs.declared.state.Module.{Module}
 use Rattle.device.specs.Step.{step_of}
 use Rattle.device.specs.Run.{State}
-use Rattle.modem.specs.Arrived.{stopsAt}
+use Rattle.modem.specs.Arrived.{stops_at}
 use Rattle.modem.specs.Frames.{frame_of, framed}
 use Rattle.roster.specs.declared.word.Kind.{Kind}
-use Rattle.roster.specs.Seat.{benchOf}
-use Rattle.modem.specs.Stream.{cut, streamOf, goOn}
+use Rattle.roster.specs.Seat.{bench_of}
+use Rattle.modem.specs.Stream.{cut, stream_of, go_on}
 
 -- frames may arrive in pieces of any size: what is written, the state and what is kept do not hang on where they are cut
 abbrev pub InPieces : Type 0
-InPieces = (st : State) (room p q : List ℕ) → streamOf st room (p ++ q) ≡ goOn room (streamOf st room p) q
+InPieces = (st : State) (room p q : List ℕ) → stream_of st room (p ++ q) ≡ go_on room (stream_of st room p) q
 
 -- with any fit links.bin, input 02 50 AA BB CC 00 10 3A 0F 0F 00 gives exactly 02 50 00 10 3A AA BB CC 2F 0F 00
 abbrev pub PingAlways : Type 0
 PingAlways =
-    (l room : List ℕ) → isFit l ≡ true → 9 ≤ length room →
-    streamOf (record { device = benchOf Kind.Dimmer; links = l }) room
+    (l room : List ℕ) → is_fit l ≡ true → 9 ≤ length room →
+    stream_of (record { device = bench_of Kind.Dimmer; links = l }) room
     (0x02 ∷ 0x50 ∷ 0xaa ∷ 0xbb ∷ 0xcc ∷ 0x00 ∷ 0x10 ∷ 0x3a ∷ 0x0f ∷ 0x0f ∷ 0x00 ∷ []) ≡
     record {
       written = (0x02 ∷ 0x50 ∷ 0x00 ∷ 0x10 ∷ 0x3a ∷ 0xaa ∷ 0xbb ∷ 0xcc ∷ 0x2f ∷ 0x0f ∷ 0x00 ∷ []) ∷ [];
-      state = record { device = benchOf Kind.Dimmer; links = l };
+      state = record { device = bench_of Kind.Dimmer; links = l };
       kept = [];
     }
 
@@ -49,7 +49,7 @@ RepliesAreMessages = (m : Module) (l s room : List ℕ) → Messages s (step_of 
 
 -- a byte that doesn't start a frame is skipped alone
 abbrev pub SkippedAlone : Type 0
-SkippedAlone = (x : ℕ) (s : List ℕ) → stopsAt (x ∷ s) 0 ≡ false → cut (x ∷ s) ≡ cut s
+SkippedAlone = (x : ℕ) (s : List ℕ) → stops_at (x ∷ s) 0 ≡ false → cut (x ∷ s) ≡ cut s
 
 -- 02 50 and a standard message, or 02 51 and an extended one
 pub data Frame (f : List ℕ) : Type 0 where

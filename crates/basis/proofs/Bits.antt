@@ -8,7 +8,7 @@ use lib.Dec.{eqb, ltb}
 use lib.Pow.{pow_pos, pow-add}
 use borrow.Author.Tests.{eqb-true, eqb-false, eq-eqb, ne_eqb, ltb-true, ltb-false}
 use Rattle.basis.specs.Numbers.{is_set}
-use Rattle.basis.specs.Flags.{setBit, clearBit, SetIn, ClearIn}
+use Rattle.basis.specs.Flags.{set_bit, clear_bit, SetIn, ClearIn}
 use Rattle.basis.proofs.Choice.{by}
 use Rattle.basis.proofs.Flags.{room_for, part_of}
 
@@ -35,8 +35,8 @@ module _ (b f : ℕ) (clear : is_set b f ≡ false) where
       let same : (halves + 1) / 2 ≡ halves / 2 = omega (arith, eqb-false (halves % 2) 1 clear) in
       apart (f + 2 ^ b) ∙ ap (λ (y : ℕ). y / 2 / n) (add-div_right f (pow_pos b)) ∙ ap (λ (y : ℕ). y / n) same ∙ sym (apart f)
 
-  set-above : (j : ℕ) → b < j → is_set j (f + 2 ^ b) ≡ is_set j f
-  set-above j h =
+  set_above : (j : ℕ) → b < j → is_set j (f + 2 ^ b) ≡ is_set j f
+  set_above j h =
       let e : b + (1 + (j - (b + 1))) ≡ j = omega arith in
       ap (λ (y : ℕ). eqb (y % 2) 1) (rw e at (above (j - (b + 1))))
 
@@ -54,23 +54,23 @@ set_below b f j h =
     ap (λ (y : ℕ). eqb y 1) (rw e at (under j (b - (j + 1)) f))
 
 -- every other bit stays where bit b was clear and is set
-pub set-elsewhere : (b f : ℕ) → is_set b f ≡ false → (j : ℕ) → (j ≡ b → ⊥) → is_set j (f + 2 ^ b) ≡ is_set j f
-set-elsewhere b f clear j other = go (ltb j b) refl
+pub set_elsewhere : (b f : ℕ) → is_set b f ≡ false → (j : ℕ) → (j ≡ b → ⊥) → is_set j (f + 2 ^ b) ≡ is_set j f
+set_elsewhere b f clear j other = go (ltb j b) refl
   where
     go : (t : Bool) → ltb j b ≡ t → is_set j (f + 2 ^ b) ≡ is_set j f
     go true q = set_below b f j (ltb-true j b q)
-    go false q = set-above b f clear j (omega (arith, ltb-false j b q, other))
+    go false q = set_above b f clear j (omega (arith, ltb-false j b q, other))
 
 module _ (w b f : ℕ) (h : b < w) (g : f < 2 ^ w) where
-  pub sets : SetIn w b f (setBit b f)
+  pub sets : SetIn w b f (set_bit b f)
   sets =
       by (SetIn w b f) (is_set b f)
       (λ e. record { named = e; others = λ j other. refl; inside = g })
-      (λ e. record { named = set_there b f e; others = set-elsewhere b f e; inside = room_for w b f h g e })
+      (λ e. record { named = set_there b f e; others = set_elsewhere b f e; inside = room_for w b f h g e })
 
   -- what is taken away was added
   taken : is_set b f ≡ true → ClearIn w b f (f - 2 ^ b)
-  taken e = record { named = gone; others = λ j other. sym (set-elsewhere b (f - 2 ^ b) gone j other) ∙ ap (is_set j) whole; inside = omega arith }
+  taken e = record { named = gone; others = λ j other. sym (set_elsewhere b (f - 2 ^ b) gone j other) ∙ ap (is_set j) whole; inside = omega arith }
     where
       whole : f - 2 ^ b + 2 ^ b ≡ f
       whole = omega (arith, part_of b f e)
@@ -81,5 +81,5 @@ module _ (w b f : ℕ) (h : b < w) (g : f < 2 ^ w) where
       gone : is_set b (f - 2 ^ b) ≡ false
       gone = ne_eqb ((f - 2 ^ b) / 2 ^ b % 2) 1 (λ q. omega (arith, one_less, eqb-true (f / 2 ^ b % 2) 1 e))
 
-  pub clears : ClearIn w b f (clearBit b f)
+  pub clears : ClearIn w b f (clear_bit b f)
   clears = by (ClearIn w b f) (is_set b f) taken (λ e. record { named = e; others = λ j other. refl; inside = g })

@@ -10,8 +10,8 @@ use borrow.Author.Tests.{eqb-true, eqb-false, ltb-true, ltb-false}
 use Rattle.basis.specs.Numbers.{is_set}
 
 -- an even number of halves, and a rest, below a whole number of wholes: there is room for one half more
-half-more : (f p r k n : ℕ) → 2 * k * p + r ≡ f → r < p → f < n * (2 * p) → f + p < n * (2 * p)
-half-more f p r k n e h g = go (ltb k n) refl
+half_more : (f p r k n : ℕ) → 2 * k * p + r ≡ f → r < p → f < n * (2 * p) → f + p < n * (2 * p)
+half_more f p r k n e h g = go (ltb k n) refl
   where
     go : (t : Bool) → ltb k n ≡ t → f + p < n * (2 * p)
     go true q = omega (arith, mul-le-mul_right p (ltb-true k n q))
@@ -26,7 +26,7 @@ room_for w b f h g e =
     let split : 2 ^ w ≡ n * (2 * p) = ap (λ (x : ℕ). 2 ^ x) (sym there) ∙ pow-add 2 (w - (1 + b)) (1 + b) ∙ ap (λ (x : ℕ). n * x) (pow-add 2 1 b) in
     let even : f / p ≡ 2 * (f / p / 2) = omega (arith, eqb-false (f / p % 2) 1 e) in
     let whole : 2 * (f / p / 2) * p + f % p ≡ f = ap (λ (x : ℕ). x * p + f % p) (sym even) ∙ div-add-mod' f p in
-    rw split (half-more f p (f % p) (f / p / 2) n whole (mod-lt f (pow_pos b)) (rw split at g))
+    rw split (half_more f p (f % p) (f / p / 2) n whole (mod-lt f (pow_pos b)) (rw split at g))
 
 -- where it is set it can be taken
 pub part_of : (b f : ℕ) → is_set b f ≡ true → 2 ^ b ≤ f

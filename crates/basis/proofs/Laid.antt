@@ -10,11 +10,11 @@ use lib.Seq.{length-take-le, take_at, drop_at, paste-suc, take_all, take-append_
 use borrow.Author.Tests.{le-ltb}
 use borrow.Rule.Slice.PartMut.{put_mid, mid_of}
 use Rattle.basis.specs.Choice.{choose}
-use Rattle.basis.specs.Laid.{laid, laidIfFits}
+use Rattle.basis.specs.Laid.{laid, laid_if_fits}
 
 -- where they fit they are laid
-pub fits : (room bytes : List ℕ) → length bytes ≤ length room → laidIfFits room bytes ≡ laid bytes room
-unfolding laidIfFits choose
+pub fits : (room bytes : List ℕ) → length bytes ≤ length room → laid_if_fits room bytes ≡ laid bytes room
+unfolding laid_if_fits choose
 fits room bytes h = rw (le-ltb (length room) (length bytes) h)
 
 -- one byte more is copied
@@ -35,15 +35,15 @@ back a xs ys =
     ∙ ap (λ (z : List ℕ). take a xs ++ z) (append-nil ys)
 
 -- a part from a on, with bytes laid at its start
-pub inner : (a : ℕ) (xs ys bytes : List ℕ) → length bytes ≤ length xs - a → ys ≡ laidIfFits (mid_of a (length xs - a) xs) bytes
+pub inner : (a : ℕ) (xs ys bytes : List ℕ) → length bytes ≤ length xs - a → ys ≡ laid_if_fits (mid_of a (length xs - a) xs) bytes
     → put_mid a (length xs - a) xs ys ≡ take a xs ++ laid bytes (drop a xs)
 inner a xs ys bytes h q =
     back a xs ys
-    ∙ ap (λ (z : List ℕ). take a xs ++ z) (q ∙ ap (λ (z : List ℕ). laidIfFits z bytes) (rest a xs) ∙ fits (drop a xs) bytes (simp length-drop h))
+    ∙ ap (λ (z : List ℕ). take a xs ++ z) (q ∙ ap (λ (z : List ℕ). laid_if_fits z bytes) (rest a xs) ∙ fits (drop a xs) bytes (simp length-drop h))
 
 -- bytes laid directly behind bytes
-pub behind : (room xs ys first more : List ℕ) → length first + length more ≤ length room → xs ≡ laidIfFits room first
-    → ys ≡ laidIfFits (mid_of (length first) (length xs - length first) xs) more
+pub behind : (room xs ys first more : List ℕ) → length first + length more ≤ length room → xs ≡ laid_if_fits room first
+    → ys ≡ laid_if_fits (mid_of (length first) (length xs - length first) xs) more
     → put_mid (length first) (length xs - length first) xs ys ≡ laid (first ++ more) room
 behind room xs ys first more h p q =
     let e : xs ≡ laid first room = p ∙ fits room first (omega arith) in
@@ -61,6 +61,6 @@ further a xs zs m later h q =
     rw (e, take_at p z (a + length m) n, drop_at p z (a + length m) n) (simp (append_assoc, drop-drop, length-append, add_assoc))
 
 -- so it is in a turn of a loop that lays one message behind another
-pub turn : (a : ℕ) (xs ys m later : List ℕ) → a + length m ≤ length xs → ys ≡ laidIfFits (mid_of a (length xs - a) xs) m
+pub turn : (a : ℕ) (xs ys m later : List ℕ) → a + length m ≤ length xs → ys ≡ laid_if_fits (mid_of a (length xs - a) xs) m
     → take (a + length m) (put_mid a (length xs - a) xs ys) ++ laid later (drop (a + length m) (put_mid a (length xs - a) xs ys)) ≡ take a xs ++ laid (m ++ later) (drop a xs)
 turn a xs ys m later h q = further a xs (put_mid a (length xs - a) xs ys) m later h (inner a xs ys m (omega arith) q)

@@ -4,15 +4,15 @@ use Rattle.basis.specs.Choice.{choose}
 use Rattle.basis.specs.Numbers.{is_set}
 
 -- the flags with bit b set, and with bit b clear; every other bit stays
-abbrev pub setBit : ℕ → ℕ → ℕ
-setBit b flags = choose (is_set b flags) flags (flags + 2 ^ b)
+abbrev pub set_bit : ℕ → ℕ → ℕ
+set_bit b flags = choose (is_set b flags) flags (flags + 2 ^ b)
 
-abbrev pub clearBit : ℕ → ℕ → ℕ
-clearBit b flags = choose (is_set b flags) (flags - 2 ^ b) flags
+abbrev pub clear_bit : ℕ → ℕ → ℕ
+clear_bit b flags = choose (is_set b flags) (flags - 2 ^ b) flags
 
 -- code 2 x b sets bit b, and code 2 x b + 1 clears it
 unfoldable pub flagged : ℕ → ℕ → ℕ
-flagged code flags = choose (eqb (code % 2) 0) (setBit (code / 2) flags) (clearBit (code / 2) flags)
+flagged code flags = choose (eqb (code % 2) 0) (set_bit (code / 2) flags) (clear_bit (code / 2) flags)
 
 -- bit by bit: of w bits bit b is set, and every other one stays
 pub record SetIn (w b flags after : ℕ) : Type 0 where

@@ -7,5 +7,5 @@ abbrev pub laid : List ℕ → List ℕ → List ℕ
 laid bytes room = bytes ++ drop (length bytes) room
 
 -- nothing where they do not fit
-unfoldable pub laidIfFits : List ℕ → List ℕ → List ℕ
-laidIfFits room bytes = choose (ltb (length room) (length bytes)) room (laid bytes room)
+unfoldable pub laid_if_fits : List ℕ → List ℕ → List ℕ
+laid_if_fits room bytes = choose (ltb (length room) (length bytes)) room (laid bytes room)

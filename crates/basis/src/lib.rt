@@ -1,10 +1,10 @@
 // What every layer is written with. Its definitions stand in specs/ and their laws in proofs/; it has the loop that lays bytes, and the lesser of two numbers.
 ghost use Rattle.std.specs.Prelude.{◌≡◌, min};
-ghost use Rattle.basis.specs.Laid.{laidIfFits};
+ghost use Rattle.basis.specs.Laid.{laid_if_fits};
 
 // The bytes over the start of the room; what stands behind them stays. Where they do not fit, nothing is written.
 pub fn lay(room: &mut [u8], bytes: &[u8])
-    ensures { room.new ≡ laidIfFits room.old bytes.now }
+    ensures { room.new ≡ laid_if_fits room.old bytes.now }
 {
     if room.len() < bytes.len() {
         return;

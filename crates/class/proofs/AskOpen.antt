@@ -23,13 +23,13 @@ use denote.Triple.Spec.{triple_of}
 use denote.Triple.Statement.{Contract}
 use denote.Triple.Clauses.{Lasts, ensured, lasts}
 use Rattle.wire.specs.declared.kind.Message.{Message}
-use Rattle.wire.specs.Reading.{heardIn}
+use Rattle.wire.specs.Reading.{heard_in}
 use Rattle.wire.specs.contracts.kind.Message as Q
 use Rattle.wire.proofs.kind.Message.TheLaws as Q'
 use Rattle.row.specs.declared.progress.Progress.{Progress}
 use Rattle.row.specs.Round.{opened}
 use Rattle.row.specs.contracts.progress.Progress as Y
-use Rattle.class.proofs.Machine.{machH}
+use Rattle.class.proofs.Machine.{mach_h}
 use Rattle.wire.specs.contracts.read.hear as hear
 use Rattle.row.specs.contracts.open.open as opens
 
@@ -56,17 +56,17 @@ module _ {M : Type 1} {𝓤 : Ura M} (𝓛 : Logic 𝓤) (mem : Memory → SProp
     goes-hear = qed 𝓛 (‵ Asked ∷ []) ∵ asks_nothing ! $ fsplit ! $ nothing ! $ move ! (1 ∷ 0 ∷ []) $ join ! $ frame ! $ nothing ! $ move ! (1 ∷ 0 ∷ []) $ fjoin ! $ done !
 
     abbrev pub GotHeard : Val → Item 𝓤
-    GotHeard w = later (some (λ (r : Message). given (r ≡ heardIn x.now) (‵ (fsep (flft κ q) ((Q.the_row).own_val r (w ∷ []))))))
+    GotHeard w = later (some (λ (r : Message). given (r ≡ heard_in x.now) (‵ (fsep (flft κ q) ((Q.the_row).own_val r (w ∷ []))))))
 
     pub heard-so : (w : Val) → ent 𝓤 (Hear.post to-hear w) (mean 𝓛 (GotHeard w))
     heard-so w =
         qed 𝓛 (raw (Hear.post to-hear w) ∷ []) ∵ updating ! $
         use1 𝓛 (later (some (λ (r : Message). ((‵ (flft κ q) ⊛ ‵ ftrue) ⊛ ‵ ((Q.the_row).own_val r (w ∷ []))) ⊛ raw (ensured 𝓛 hear.ended (hear.clauses 𝓛 mem run) (κ, tt) (x, tt) tt r)))) (id⊢ 𝓤 _) $
         await ! tt $ pick ! (λ r.
-        split ! $ move ! (1 ∷ []) $ use1 𝓛 (some (λ (zs : Lasts hear.ended (κ, tt) (x, tt)). ‵ (lasts hear.ended (κ, tt) (x, tt) zs) ⊛ raw (fact 𝓤 (r ≡ heardIn x.now)))) (id⊢ 𝓤 _) $ pick ! (λ zs.
-        split ! $ drop ! $ heard ! (r ≡ heardIn x.now) (λ e.
+        split ! $ move ! (1 ∷ []) $ use1 𝓛 (some (λ (zs : Lasts hear.ended (κ, tt) (x, tt)). ‵ (lasts hear.ended (κ, tt) (x, tt) zs) ⊛ raw (fact 𝓤 (r ≡ heard_in x.now)))) (id⊢ 𝓤 _) $ pick ! (λ zs.
+        split ! $ drop ! $ heard ! (r ≡ heard_in x.now) (λ e.
         split ! $ split ! $ at_once ! $
-        show ! (λ (v : Message). guard 𝓤 (v ≡ heardIn x.now) (sem 𝓛 (fsep (flft κ q) ((Q.the_row).own_val v (w ∷ []))))) r $
+        show ! (λ (v : Message). guard 𝓤 (v ≡ heard_in x.now) (sem 𝓛 (fsep (flft κ q) ((Q.the_row).own_val v (w ∷ []))))) r $
         check ! e $ keep ! (0 ∷ 2 ∷ []) $ done !)))
 
   -- `open` asks for values alone
@@ -75,12 +75,12 @@ module _ {M : Type 1} {𝓤 : Ura M} (𝓛 : Logic 𝓤) (mem : Memory → SProp
     args = (n, (bytes, (h, tt)))
 
     abbrev pub to-open : Open.Ghost
-    to-open = ((tt, tt, tt, args, (vint w64 n ∷ [], (vint w64 bytes ∷ [], (machH h ∷ [], tt)))), tt)
+    to-open = ((tt, tt, tt, args, (vint w64 n ∷ [], (vint w64 bytes ∷ [], (mach_h h ∷ [], tt)))), tt)
 
-    pub goes-open : n < 2 ^ 64 → bytes < 2 ^ 64 → Is Q.the_row h (machH h ∷ []) → ent 𝓤 (sem 𝓛 ftrue) (Open.pre to-open)
+    pub goes-open : n < 2 ^ 64 → bytes < 2 ^ 64 → Is Q.the_row h (mach_h h ∷ []) → ent 𝓤 (sem 𝓛 ftrue) (Open.pre to-open)
     goes-open n-fits bytes_fit is-h =
         qed 𝓛 (‵ ftrue ∷ []) ∵ asks_nothing ! $ frame ! $ nothing ! $
-        owned ! Q.the_row (Is Q.the_row) (LL.makes Q.the_type Q'.the_plain 𝓛) h (machH h ∷ []) is-h $ fjoin ! $
+        owned ! Q.the_row (Is Q.the_row) (LL.makes Q.the_type Q'.the_plain 𝓛) h (mach_h h ∷ []) is-h $ fjoin ! $
         owned ! usize (Is usize) (uint_Makes 𝓛 w64) bytes _ (refl, bytes_fit) $ fjoin ! $
         owned ! usize (Is usize) (uint_Makes 𝓛 w64) n _ (refl, n-fits) $ fjoin ! $ done !
 

@@ -35,7 +35,7 @@ use Rattle.row.specs.declared.progress.Progress.{Progress}
 use Rattle.class.specs.Turns.{turn_of, Ready, Took}
 use Rattle.row.specs.contracts.progress.Progress as Y
 use Rattle.row.proofs.progress.Progress.TheLaws as Y'
-use Rattle.class.proofs.Machine.{R, machT, machH}
+use Rattle.class.proofs.Machine.{R, mach_t, mach_h}
 use Rattle.class.specs.contracts.step.tend as tend
 
 module _ {M : Type 1} {𝓤 : Ura M} (𝓛 : Logic 𝓤) (mem : Memory → SProp 𝓤) (run : Routine → Fun 𝓤) where
@@ -48,19 +48,19 @@ module _ {M : Type 1} {𝓤 : Ura M} (𝓛 : Logic 𝓤) (mem : Memory → SProp
 
     -- what `tend`'s triple binds outside
     abbrev pub to-tend : Tend.Ghost
-    to-tend = (((κ, (κl, (κr, tt))), (q, (ql, (qr, tt))), tt, args, (s ∷ [], (machT t ∷ [], (machH h ∷ [], (sl ∷ [], (sr ∷ [], tt)))))), tt)
+    to-tend = (((κ, (κl, (κr, tt))), (q, (ql, (qr, tt))), tt, args, (s ∷ [], (mach_t t ∷ [], (mach_h h ∷ [], (sl ∷ [], (sr ∷ [], tt)))))), tt)
 
     abbrev pub Asked : Fml
     Asked = fsep (flft κ q) (fsep (flft κl ql) (fsep (flft κr qr) (fsep ((MutRef (named 0) κ R).own_val x (s ∷ [])) (fsep ((MutSlice (named 1) κl u8).own_val xl (sl ∷ [])) ((MutSlice (named 2) κr u8).own_val xr (sr ∷ []))))))
 
-    pub goes : Is Y.the_row t (machT t ∷ []) → Is Q.the_row h (machH h ∷ []) → Ready t (length xl.now) → ent 𝓤 (sem 𝓛 Asked) (Tend.pre to-tend)
+    pub goes : Is Y.the_row t (mach_t t ∷ []) → Is Q.the_row h (mach_h h ∷ []) → Ready t (length xl.now) → ent 𝓤 (sem 𝓛 Asked) (Tend.pre to-tend)
     goes is-t is-h asks =
         qed 𝓛 (‵ Asked ∷ []) ∵ says ! asks $ fsplit ! $ move ! (1 ∷ []) $ fsplit ! $ move ! (1 ∷ []) $ fsplit ! $ move ! (1 ∷ []) $ fsplit ! $ move ! (1 ∷ []) $ fsplit ! $
         -- [links'; room's; the module's; room's token; links'; the module's]
         nothing ! $ move ! (4 ∷ 0 ∷ []) $ join ! $ move ! (4 ∷ 0 ∷ []) $ join ! $ move ! (4 ∷ 0 ∷ []) $ join ! $ frame ! $
         nothing ! $ move ! (2 ∷ 0 ∷ []) $ fjoin ! $ move ! (1 ∷ 0 ∷ []) $ fjoin ! $
-        owned ! Q.the_row (Is Q.the_row) (LL.makes Q.the_type Q'.the_plain 𝓛) h (machH h ∷ []) is-h $ fjoin ! $
-        owned ! Y.the_row (Is Y.the_row) (LL.makes Y.the_type Y'.the_plain 𝓛) t (machT t ∷ []) is-t $ fjoin ! $ move ! (1 ∷ 0 ∷ []) $ fjoin ! $ done !
+        owned ! Q.the_row (Is Q.the_row) (LL.makes Q.the_type Q'.the_plain 𝓛) h (mach_h h ∷ []) is-h $ fjoin ! $
+        owned ! Y.the_row (Is Y.the_row) (LL.makes Y.the_type Y'.the_plain 𝓛) t (mach_t t ∷ []) is-t $ fjoin ! $ move ! (1 ∷ 0 ∷ []) $ fjoin ! $ done !
 
     -- what is known of the progress, the module and the last lists
     abbrev pub Said : Progress → Module → List ℕ → List ℕ → Type 0

@@ -39,7 +39,7 @@ use Rattle.class.specs.Turns.{turn_of, Ready, Took}
 use Rattle.row.specs.contracts.progress.Progress as Y
 use Rattle.row.proofs.progress.Progress.TheLaws as Y'
 use Rattle.class.specs.contracts.turn.Tended as N
-use Rattle.class.proofs.Machine.{R, mach, machT, machH}
+use Rattle.class.proofs.Machine.{R, mach, mach_t, mach_h}
 use Rattle.class.specs.contracts.turn.turn as turn
 
 module _ {M : Type 1} {𝓤 : Ura M} (𝓛 : Logic 𝓤) (mem : Memory → SProp 𝓤) (run : Routine → Fun 𝓤) where
@@ -52,19 +52,19 @@ module _ {M : Type 1} {𝓤 : Ura M} (𝓛 : Logic 𝓤) (mem : Memory → SProp
 
     -- what `turn`'s triple binds outside
     abbrev pub to-turn : Turned.Ghost
-    to-turn = (((κl, (κr, tt)), (ql, (qr, tt)), tt, args, (mach m ∷ [], (machT t ∷ [], (machH h ∷ [], (sl ∷ [], (sr ∷ [], tt)))))), tt)
+    to-turn = (((κl, (κr, tt)), (ql, (qr, tt)), tt, args, (mach m ∷ [], (mach_t t ∷ [], (mach_h h ∷ [], (sl ∷ [], (sr ∷ [], tt)))))), tt)
 
     abbrev pub Asked : Fml
     Asked = fsep (flft κl ql) (fsep (flft κr qr) (fsep ((MutSlice (named 0) κl u8).own_val xl (sl ∷ [])) ((MutSlice (named 1) κr u8).own_val xr (sr ∷ []))))
 
-    pub goes : Is R m (mach m ∷ []) → Is Y.the_row t (machT t ∷ []) → Is Q.the_row h (machH h ∷ []) → Ready t (length xl.now) → ent 𝓤 (sem 𝓛 Asked) (Turned.pre to-turn)
+    pub goes : Is R m (mach m ∷ []) → Is Y.the_row t (mach_t t ∷ []) → Is Q.the_row h (mach_h h ∷ []) → Ready t (length xl.now) → ent 𝓤 (sem 𝓛 Asked) (Turned.pre to-turn)
     goes is is-t is-h asks =
         qed 𝓛 (‵ Asked ∷ []) ∵ says ! asks $ fsplit ! $ move ! (1 ∷ []) $ fsplit ! $ move ! (1 ∷ []) $ fsplit ! $
         -- [links'; room's; room's token; links']
         nothing ! $ move ! (3 ∷ 0 ∷ []) $ join ! $ move ! (3 ∷ 0 ∷ []) $ join ! $ frame ! $
         nothing ! $ move ! (2 ∷ 0 ∷ []) $ fjoin ! $ move ! (1 ∷ 0 ∷ []) $ fjoin ! $
-        owned ! Q.the_row (Is Q.the_row) (LL.makes Q.the_type Q'.the_plain 𝓛) h (machH h ∷ []) is-h $ fjoin ! $
-        owned ! Y.the_row (Is Y.the_row) (LL.makes Y.the_type Y'.the_plain 𝓛) t (machT t ∷ []) is-t $ fjoin ! $
+        owned ! Q.the_row (Is Q.the_row) (LL.makes Q.the_type Q'.the_plain 𝓛) h (mach_h h ∷ []) is-h $ fjoin ! $
+        owned ! Y.the_row (Is Y.the_row) (LL.makes Y.the_type Y'.the_plain 𝓛) t (mach_t t ∷ []) is-t $ fjoin ! $
         owned ! R (Is R) (LL.makes T.the_type T'.the_plain 𝓛) m (mach m ∷ []) is $ fjoin ! $ done !
 
     -- what is known of the answer and of the last lists

@@ -12,12 +12,12 @@ use Rattle.results.specs.declared.Outcome.{Outcome}
 use Rattle.results.specs.Number.{number_of}
 use Rattle.module.specs.declared.state.Module.{Module}
 use Rattle.device.specs.Run.{State, Said}
-use Rattle.device.proofs.Lent.{room-alike, room-kept}
+use Rattle.device.proofs.Lent.{room_alike, room_kept}
 use Rattle.device.proofs.Replied.{replied}
 use Rattle.row.specs.declared.outcome.ClassOutcome.{ClassOutcome}
 use Rattle.row.specs.declared.progress.Whom.{Whom}
-use Rattle.class.specs.Seat.{seatAt, shareAt, withShare}
-use Rattle.class.specs.Class.{ClassStep, refusedBy, served_at, Heard, heardAt, heardFrom, broadcastTo, class_of}
+use Rattle.class.specs.Seat.{seat_at, share_at, with_share}
+use Rattle.class.specs.Class.{ClassStep, refused_by, served_at, Heard, heard_at, heard_from, broadcast_to, class_of}
 
 -- what a call comes to, its room aside
 pub record ClassSaid : Type 0 where
@@ -28,12 +28,12 @@ pub record ClassSaid : Type 0 where
   pub row : List Module
   pub links : List ℕ
 
-abbrev pub classSaid : ClassStep → ClassSaid
-classSaid t = record { outcome = t.outcome; reply = t.reply; read = t.read; whom = t.whom; row = t.row; links = t.links }
+abbrev pub class_said : ClassStep → ClassSaid
+class_said t = record { outcome = t.outcome; reply = t.reply; read = t.read; whom = t.whom; row = t.row; links = t.links }
 
 -- seat i's module and share
 abbrev own : ℕ → List Module → List ℕ → ℕ → State
-own w row l i = record { device = seatAt row i; links = shareAt w i l }
+own w row l i = record { device = seat_at row i; links = share_at w i l }
 
 -- ---- a broadcast on its way, its room aside
 record Way : Type 0 where
@@ -51,35 +51,35 @@ onward w i y t =
       acted = y.acted || eqb (number_of t.outcome) 0;
       read = y.read + t.read;
       row = set y.row i t.left.device;
-      links = withShare w i t.left.links y.links;
+      links = with_share w i t.left.links y.links;
     }
 
-abbrev with-room : Way → List ℕ → Heard
-with-room y room = record { acted = y.acted; read = y.read; row = y.row; links = y.links; room = room }
+abbrev with_room : Way → List ℕ → Heard
+with_room y room = record { acted = y.acted; read = y.read; row = y.row; links = y.links; room = room }
 
 module _ (w : ℕ) (s : List ℕ) where
-  next-alike : (i : ℕ) (x y : Heard) → way_of x ≡ way_of y → length x.room ≡ length y.room → way_of (heardAt w s i x) ≡ way_of (heardAt w s i y)
-  next-alike i x y p e =
-      ap (λ (z : Way). way_of (heardAt w s i (with-room z x.room))) p
-      ∙ ap (onward w i (way_of y)) (room-alike (own w y.row y.links i) s x.room y.room e)
+  next_alike : (i : ℕ) (x y : Heard) → way_of x ≡ way_of y → length x.room ≡ length y.room → way_of (heard_at w s i x) ≡ way_of (heard_at w s i y)
+  next_alike i x y p e =
+      ap (λ (z : Way). way_of (heard_at w s i (with_room z x.room))) p
+      ∙ ap (onward w i (way_of y)) (room_alike (own w y.row y.links i) s x.room y.room e)
 
-  next-kept : (i : ℕ) (x : Heard) → length (heardAt w s i x).room ≡ length x.room
-  next-kept i x = room-kept (own w x.row x.links i) s x.room
+  next_kept : (i : ℕ) (x : Heard) → length (heard_at w s i x).room ≡ length x.room
+  next_kept i x = room_kept (own w x.row x.links i) s x.room
 
-  way-alike : (k i : ℕ) (x y : Heard) → way_of x ≡ way_of y → length x.room ≡ length y.room → way_of (heardFrom w s k i x) ≡ way_of (heardFrom w s k i y)
-  unfolding heardFrom
-  way-alike zero i x y p e = p
-  way-alike (suc k) i x y p e =
-      way-alike k (i + 1) (heardAt w s i x) (heardAt w s i y) (next-alike i x y p e) (next-kept i x ∙ e ∙ sym (next-kept i y))
+  way_alike : (k i : ℕ) (x y : Heard) → way_of x ≡ way_of y → length x.room ≡ length y.room → way_of (heard_from w s k i x) ≡ way_of (heard_from w s k i y)
+  unfolding heard_from
+  way_alike zero i x y p e = p
+  way_alike (suc k) i x y p e =
+      way_alike k (i + 1) (heard_at w s i x) (heard_at w s i y) (next_alike i x y p e) (next_kept i x ∙ e ∙ sym (next_kept i y))
 
-  way-kept : (k i : ℕ) (x : Heard) → length (heardFrom w s k i x).room ≡ length x.room
-  unfolding heardFrom
-  way-kept zero i x = refl
-  way-kept (suc k) i x = way-kept k (i + 1) (heardAt w s i x) ∙ next-kept i x
+  way_kept : (k i : ℕ) (x : Heard) → length (heard_from w s k i x).room ≡ length x.room
+  unfolding heard_from
+  way_kept zero i x = refl
+  way_kept (suc k) i x = way_kept k (i + 1) (heard_at w s i x) ∙ next_kept i x
 
 -- ---- the class
-abbrev fromWay : Way → ClassSaid
-fromWay y =
+abbrev from_way : Way → ClassSaid
+from_way y =
     record {
       outcome = ClassOutcome.Single (choose y.acted Outcome.Done Outcome.Unconcerned);
       reply = [];
@@ -89,19 +89,19 @@ fromWay y =
       links = y.links;
     }
 
-abbrev fromSeat : ℕ → List Module → List ℕ → ℕ → Said → ClassSaid
-fromSeat w row l i t =
+abbrev from_seat : ℕ → List Module → List ℕ → ℕ → Said → ClassSaid
+from_seat w row l i t =
     record {
       outcome = ClassOutcome.Single t.outcome;
       reply = t.reply;
       read = t.read;
       whom = Whom.Seat i;
       row = set row i t.left.device;
-      links = withShare w i t.left.links l;
+      links = with_share w i t.left.links l;
     }
 
 pub record Alike (t u : ClassStep) : Type 0 where
-  pub same : classSaid t ≡ classSaid u
+  pub same : class_said t ≡ class_said u
 
 pub record ClassReplied (room : List ℕ) (t : ClassStep) : Type 0 where
   pub fits : length t.reply ≤ length room
@@ -112,45 +112,45 @@ module _ (row : List Module) (l s : List ℕ) where
   w = length l / length row
 
   -- refused, to one seat, to all
-  refused-alike : (o : ClassOutcome) (room other : List ℕ) → Alike (refusedBy o row l room) (refusedBy o row l other)
-  refused-alike o room other = record { same = refl }
+  refused_alike : (o : ClassOutcome) (room other : List ℕ) → Alike (refused_by o row l room) (refused_by o row l other)
+  refused_alike o room other = record { same = refl }
 
-  served-alike : (i : ℕ) (room other : List ℕ) → length room ≡ length other → Alike (served_at w row l s room i) (served_at w row l s other i)
-  served-alike i room other e = record { same = ap (fromSeat w row l i) (room-alike (own w row l i) s room other e) }
+  served_alike : (i : ℕ) (room other : List ℕ) → length room ≡ length other → Alike (served_at w row l s room i) (served_at w row l s other i)
+  served_alike i room other e = record { same = ap (from_seat w row l i) (room_alike (own w row l i) s room other e) }
 
-  offered-alike : (room other : List ℕ) → length room ≡ length other → Alike (broadcastTo w row l s room) (broadcastTo w row l s other)
-  offered-alike room other e = record { same = ap fromWay (way-alike w s (length row) 0 _ _ refl e) }
+  offered_alike : (room other : List ℕ) → length room ≡ length other → Alike (broadcast_to w row l s room) (broadcast_to w row l s other)
+  offered_alike room other e = record { same = ap from_way (way_alike w s (length row) 0 _ _ refl e) }
 
-  pub class-alike : (room other : List ℕ) → length room ≡ length other → Alike (class_of row l s room) (class_of row l s other)
+  pub class_alike : (room other : List ℕ) → length room ≡ length other → Alike (class_of row l s room) (class_of row l s other)
   unfolding class_of
-  class-alike room other e =
-      let no : (o : ClassOutcome) → Alike (refusedBy o row l room) (refusedBy o row l other) = λ o. refused-alike o room other in
-      let one = beside Alike _ (served-alike _ room other e) (no _) in
-      beside Alike _ (beside Alike _ (no _) (beside Alike _ (beside Alike _ (no _) (beside Alike _ (offered-alike room other e) one)) (no _))) (no _)
+  class_alike room other e =
+      let no : (o : ClassOutcome) → Alike (refused_by o row l room) (refused_by o row l other) = λ o. refused_alike o room other in
+      let one = beside Alike _ (served_alike _ room other e) (no _) in
+      beside Alike _ (beside Alike _ (no _) (beside Alike _ (beside Alike _ (no _) (beside Alike _ (offered_alike room other e) one)) (no _))) (no _)
 
-  pub class-kept : (room : List ℕ) → length (class_of row l s room).room ≡ length room
+  pub class_kept : (room : List ℕ) → length (class_of row l s room).room ≡ length room
   unfolding class_of
-  class-kept room =
+  class_kept room =
       let P : ClassStep → Type 0 = λ t. length t.room ≡ length room in
-      let all = way-kept w s (length row) 0 _ in
-      let one = either P _ (room-kept (own w row l _) s room) refl in
+      let all = way_kept w s (length row) 0 _ in
+      let one = either P _ (room_kept (own w row l _) s room) refl in
       either P _ (either P _ refl (either P _ (either P _ refl (either P _ all one)) refl)) refl
 
-  refused-replied : (o : ClassOutcome) (room : List ℕ) → ClassReplied room (refusedBy o row l room)
-  refused-replied o room = record { fits = omega arith; start = refl }
+  refused_replied : (o : ClassOutcome) (room : List ℕ) → ClassReplied room (refused_by o row l room)
+  refused_replied o room = record { fits = omega arith; start = refl }
 
-  served-replied : (i : ℕ) (room : List ℕ) → ClassReplied room (served_at w row l s room i)
-  served-replied i room =
-      let own-reply = replied (seatAt row i) (shareAt w i l) s room in
+  served_replied : (i : ℕ) (room : List ℕ) → ClassReplied room (served_at w row l s room i)
+  served_replied i room =
+      let own-reply = replied (seat_at row i) (share_at w i l) s room in
       record { fits = own-reply.fits; start = own-reply.start }
 
-  offered-replied : (room : List ℕ) → ClassReplied room (broadcastTo w row l s room)
-  offered-replied room = record { fits = omega arith; start = refl }
+  offered_replied : (room : List ℕ) → ClassReplied room (broadcast_to w row l s room)
+  offered_replied room = record { fits = omega arith; start = refl }
 
-  pub class-replied : (room : List ℕ) → ClassReplied room (class_of row l s room)
+  pub class_replied : (room : List ℕ) → ClassReplied room (class_of row l s room)
   unfolding class_of
-  class-replied room =
+  class_replied room =
       let P : ClassStep → Type 0 = ClassReplied room in
-      let no : (o : ClassOutcome) → P (refusedBy o row l room) = λ o. refused-replied o room in
-      let one = either P _ (served-replied _ room) (no _) in
-      either P _ (either P _ (no _) (either P _ (either P _ (no _) (either P _ (offered-replied room) one)) (no _))) (no _)
+      let no : (o : ClassOutcome) → P (refused_by o row l room) = λ o. refused_replied o room in
+      let one = either P _ (served_replied _ room) (no _) in
+      either P _ (either P _ (no _) (either P _ (either P _ (no _) (either P _ (offered_replied room) one)) (no _))) (no _)

@@ -6,7 +6,7 @@ use lib.ListN.{length, set}
 use Rattle.wire.specs.declared.kind.Message.{Message}
 use Rattle.module.specs.declared.state.Module.{Module}
 use Rattle.row.specs.declared.progress.Progress.{Progress}
-use Rattle.class.specs.Seat.{seatAt}
+use Rattle.class.specs.Seat.{seat_at}
 use Rattle.class.specs.Class.{ClassStep, ClassComes}
 use Rattle.class.specs.Turns.{Turn, turn_of, Ready}
 
@@ -16,7 +16,7 @@ module _ (target : ClassStep) (heard : Message) (bytes : ℕ) where
   Runs zero xs t ls rs = (length xs ≤ t.seat) × ClassComes target t.answer xs ls rs
   Runs (suc k) xs t ls rs =
       (t.seat < length xs) × Ready t bytes
-      × (let x : Turn = turn_of (seatAt xs t.seat) t heard ls rs in Runs k (set xs t.seat x.next) x.progress x.links x.room)
+      × (let x : Turn = turn_of (seat_at xs t.seat) t heard ls rs in Runs k (set xs t.seat x.next) x.progress x.links x.room)
 
   -- some number of turns
   pub record Goes (xs : List Module) (t : Progress) (ls rs : List ℕ) : Type 0 where
@@ -28,7 +28,7 @@ module _ (target : ClassStep) (heard : Message) (bytes : ℕ) where
     pub left : ℕ
     pub fewer : left < k
     pub ready : Ready t bytes
-    pub runs : (let x : Turn = turn_of (seatAt xs t.seat) t heard ls rs in Runs left (set xs t.seat x.next) x.progress x.links x.room)
+    pub runs : (let x : Turn = turn_of (seat_at xs t.seat) t heard ls rs in Runs left (set xs t.seat x.next) x.progress x.links x.room)
 
   pub next : (k : ℕ) (xs : List Module) (t : Progress) (ls rs : List ℕ) → Runs k xs t ls rs → t.seat < length xs → Next k xs t ls rs
   unfolding Runs
@@ -46,6 +46,6 @@ module _ (target : ClassStep) (heard : Message) (bytes : ℕ) where
   ends xs t ls rs past comes = record { left = 0; runs = (past, comes) }
 
   pub goes_on : (xs : List Module) (t : Progress) (ls rs : List ℕ) → t.seat < length xs → Ready t bytes
-      → (let x : Turn = turn_of (seatAt xs t.seat) t heard ls rs in Goes (set xs t.seat x.next) x.progress x.links x.room) → Goes xs t ls rs
+      → (let x : Turn = turn_of (seat_at xs t.seat) t heard ls rs in Goes (set xs t.seat x.next) x.progress x.links x.room) → Goes xs t ls rs
   unfolding Runs
   goes_on xs t ls rs inside ready g = record { left = suc g.left; runs = (inside, ready, g.runs) }

@@ -7,11 +7,11 @@ use borrow.Rule.Slice.PartMut.{mid_of, put_mid}
 use Rattle.wire.specs.declared.kind.Message.{Message}
 use Rattle.module.specs.declared.state.Module.{Module}
 use Rattle.device.specs.declared.step.Answer.{Answer}
-use Rattle.device.specs.Step.{Step, stepBy, Comes}
+use Rattle.device.specs.Step.{Step, step_by, Comes}
 use Rattle.row.specs.declared.progress.Round.{Round}
 use Rattle.row.specs.declared.progress.Progress.{Progress}
 use Rattle.class.specs.declared.turn.Tended.{Tended}
-use Rattle.class.specs.Turns.{stepIn, answer_of, stepTurn, turnBy, turn_of, Took}
+use Rattle.class.specs.Turns.{step_in, answer_of, step_turn, turn_by, turn_of, Took}
 
 -- the bytes between two places
 pub between : (a b : ℕ) → a + b - a ≡ b
@@ -22,10 +22,10 @@ module _ (m : Module) (t : Progress) (h : Message) (l room : List ℕ) (a : Answ
   from = t.seat * t.task.share
 
   abbrev Lent : ℕ → Type 0
-  Lent k = Comes (stepBy m (mid_of from k l) h room) a part after
+  Lent k = Comes (step_by m (mid_of from k l) h room) a part after
 
   abbrev Back : ℕ → Type 0
-  Back k = Comes (stepIn m t h l room) a (put_mid from k l part) after
+  Back k = Comes (step_in m t h l room) a (put_mid from k l part) after
 
   whole : Lent t.task.share → Back t.task.share
   whole p =
@@ -43,16 +43,16 @@ module _ (m : Module) (t : Progress) (h : Message) (l room : List ℕ) (a : Answ
   put_back p = subst Back (sym (between from t.task.share)) (whole (subst Lent (between from t.task.share) p))
 
 -- a turn is what its round says
-pub by-round : (m : Module) (t : Progress) (h : Message) (l room : List ℕ) (round : Round) → t.round ≡ round
-    → {u : Progress} {y : Module} {links after : List ℕ} → Took (turnBy round m t h l room) u y links after → Took (turn_of m t h l room) u y links after
-by-round m t h l room round e {u} {y} {links} {after} p = subst (λ (r : Round). Took (turnBy r m t h l room) u y links after) (sym e) p
+pub by_round : (m : Module) (t : Progress) (h : Message) (l room : List ℕ) (round : Round) → t.round ≡ round
+    → {u : Progress} {y : Module} {links after : List ℕ} → Took (turn_by round m t h l room) u y links after → Took (turn_of m t h l room) u y links after
+by_round m t h l room round e {u} {y} {links} {after} p = subst (λ (r : Round). Took (turn_by r m t h l room) u y links after) (sym e) p
 
 -- and goes on from what was answered as it does from the step
 module _ (x : Step) (a : Answer) (links room : List ℕ) (comes : Comes x a links room) where
   answered : a ≡ answer_of x
   answered = λ i. record { outcome = comes.outcome i; length = comes.sent i; read = comes.read i; next = comes.next i }
 
-  pub goes_on : (goes : Answer → Tended) (r : Tended) → r ≡ goes a → Took (stepTurn goes x) r.progress r.next links room
+  pub goes_on : (goes : Answer → Tended) (r : Tended) → r ≡ goes a → Took (step_turn goes x) r.progress r.next links room
   goes_on goes r e =
       let same : r ≡ goes (answer_of x) = e ∙ ap goes answered in
       record {

@@ -4,7 +4,7 @@ use Rattle.basis.specs.Choice.{choose}
 use Rattle.module.specs.declared.state.Module.{Module}
 use Rattle.row.specs.declared.outcome.ClassOutcome.{ClassOutcome}
 use Rattle.class.specs.declared.seats.SeatsAnswer.{SeatsAnswer}
-use Rattle.class.specs.Class.{ClassStep, refusedBy, class_of, ClassComes}
+use Rattle.class.specs.Class.{ClassStep, refused_by, class_of, ClassComes}
 
 -- the places behind the row stay
 abbrev pub first_of : List Module → ℕ → List ℕ → List ℕ → List ℕ → ClassStep
@@ -21,8 +21,8 @@ first_of seats n l s room =
     }
 
 -- more seats than there are places: result 11
-abbrev pub seatsOf : List Module → ℕ → List ℕ → List ℕ → List ℕ → ClassStep
-seatsOf seats n l s room = choose (ltb 16 n) (refusedBy ClassOutcome.Unfit seats l room) (first_of seats n l s room)
+abbrev pub seats_of : List Module → ℕ → List ℕ → List ℕ → List ℕ → ClassStep
+seats_of seats n l s room = choose (ltb 16 n) (refused_by ClassOutcome.Unfit seats l room) (first_of seats n l s room)
 
 abbrev pub SeatsCome : ClassStep → SeatsAnswer → List ℕ → List ℕ → Type 0
 SeatsCome t r links room = ClassComes t r.answer r.seats links room

@@ -7,7 +7,7 @@ use Rattle.results.specs.declared.Outcome.{Outcome}
 use Rattle.results.specs.Number.{number_of}
 use Rattle.module.specs.declared.state.Module.{Module}
 use Rattle.device.specs.declared.step.Answer.{Answer}
-use Rattle.device.specs.Step.{Step, stepBy}
+use Rattle.device.specs.Step.{Step, step_by}
 use Rattle.row.specs.declared.outcome.ClassOutcome.{ClassOutcome}
 use Rattle.row.specs.declared.progress.Whom.{Whom}
 use Rattle.row.specs.declared.progress.ClassAnswer.{ClassAnswer}
@@ -15,7 +15,7 @@ use Rattle.row.specs.declared.progress.Round.{Round}
 use Rattle.row.specs.declared.progress.Progress.{Progress}
 use Rattle.row.specs.Round.{ended, settled}
 use Rattle.class.specs.declared.turn.Tended.{Tended}
-use Rattle.class.specs.Seat.{shareAt, withShare}
+use Rattle.class.specs.Seat.{share_at, with_share}
 
 -- ---- the first round
 
@@ -32,15 +32,15 @@ note m t = record { next = m; progress = noted t m.identity.address }
 -- ---- the second round
 
 -- the seat's own step, with its own share, which goes back to its place
-abbrev pub stepIn : Module → Progress → Message → List ℕ → List ℕ → Step
-stepIn m t heard l room =
-    let x : Step = stepBy m (shareAt t.task.share t.seat l) heard room in
+abbrev pub step_in : Module → Progress → Message → List ℕ → List ℕ → Step
+step_in m t heard l room =
+    let x : Step = step_by m (share_at t.task.share t.seat l) heard room in
     record {
       outcome = x.outcome;
       reply = x.reply;
       read = x.read;
       next = x.next;
-      links = withShare t.task.share t.seat x.links l;
+      links = with_share t.task.share t.seat x.links l;
       room = x.room;
     }
 
@@ -57,14 +57,14 @@ served t a =
 abbrev pub joined : ClassOutcome → Outcome → ClassOutcome
 joined before outcome = choose (eqb (number_of outcome) 0) (ClassOutcome.Single Outcome.Done) before
 
-abbrev pub withSeat : ClassAnswer → Answer → ClassAnswer
-withSeat before a = record { outcome = joined before.outcome a.outcome; length = 0; read = before.read + a.read; whom = before.whom }
+abbrev pub with_seat : ClassAnswer → Answer → ClassAnswer
+with_seat before a = record { outcome = joined before.outcome a.outcome; length = 0; read = before.read + a.read; whom = before.whom }
 
 abbrev pub offered : Progress → Answer → Tended
 offered t a =
     record {
       next = a.next;
-      progress = record { seat = t.seat + 1; answer = withSeat t.answer a; round = t.round; names = t.names; task = t.task };
+      progress = record { seat = t.seat + 1; answer = with_seat t.answer a; round = t.round; names = t.names; task = t.task };
     }
 
 -- ---- a turn
@@ -79,16 +79,16 @@ pub record Turn : Type 0 where
 abbrev pub turned : Tended → List ℕ → List ℕ → Turn
 turned a l room = record { progress = a.progress; next = a.next; links = l; room = room }
 
-abbrev pub stepTurn : (Answer → Tended) → Step → Turn
-stepTurn goes x = turned (goes (answer_of x)) x.links x.room
+abbrev pub step_turn : (Answer → Tended) → Step → Turn
+step_turn goes x = turned (goes (answer_of x)) x.links x.room
 
-abbrev pub turnBy : Round → Module → Progress → Message → List ℕ → List ℕ → Turn
-turnBy Round.Note m t heard l room = turned (note m t) l room
-turnBy Round.One m t heard l room = stepTurn (served t) (stepIn m t heard l room)
-turnBy Round.All m t heard l room = stepTurn (offered t) (stepIn m t heard l room)
+abbrev pub turn_by : Round → Module → Progress → Message → List ℕ → List ℕ → Turn
+turn_by Round.Note m t heard l room = turned (note m t) l room
+turn_by Round.One m t heard l room = step_turn (served t) (step_in m t heard l room)
+turn_by Round.All m t heard l room = step_turn (offered t) (step_in m t heard l room)
 
 abbrev pub turn_of : Module → Progress → Message → List ℕ → List ℕ → Turn
-turn_of m t heard l room = turnBy t.round m t heard l room
+turn_of m t heard l room = turn_by t.round m t heard l room
 
 -- what a turn asks of the progress, with so many bytes of link memory
 pub record Ready (t : Progress) (bytes : ℕ) : Type 0 where

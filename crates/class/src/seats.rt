@@ -1,6 +1,6 @@
 // For whoever has the row by value, in the first places of an array: its promise says nothing of a lent row.
 ghost use Rattle.std.specs.Prelude.{◌≤◌};
-ghost use Rattle.class.specs.Seats.{seatsOf, SeatsCome, first_of};
+ghost use Rattle.class.specs.Seats.{seats_of, SeatsCome, first_of};
 
 use crate::step::class_step;
 use module::state::Module;
@@ -21,7 +21,7 @@ pub fn class_seats(
     message: &[u8],
     room: &mut [u8],
 ) -> SeatsAnswer
-    ensures { SeatsCome (seatsOf seats n links.old message.now room.old)
+    ensures { SeatsCome (seats_of seats n links.old message.now room.old)
         result links.new room.new }
 {
     if 16 < n {

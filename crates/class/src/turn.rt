@@ -1,7 +1,7 @@
 // One seat's turn. What a seat is offered is the reading, and of link memory its own share.
 ghost use Rattle.std.specs.Prelude.{◌≡◌, ◌+◌, ◌≤◌, ◌<◌, length, set};
 ghost use Rattle.device.specs.Step.{Comes};
-ghost use Rattle.class.specs.Turns.{note, noted, joined, offered, served, stepIn, turn_of, Ready, Took};
+ghost use Rattle.class.specs.Turns.{note, noted, joined, offered, served, step_in, turn_of, Ready, Took};
 
 use device::step::{Answer, serve};
 use module::state::Module;
@@ -82,7 +82,7 @@ fn with_name(names: [Address; 16], seat: usize, a: Address) -> [Address; 16]
 // The seat's own step, with its own share.
 fn step_in(m: Module, t: Progress, heard: Message, links: &mut [u8], room: &mut [u8]) -> Answer
     requires { Ready t (length links.old) }
-    ensures { Comes (stepIn m t heard links.old room.old) result links.new room.new }
+    ensures { Comes (step_in m t heard links.old room.old) result links.new room.new }
 {
     let from = t.seat * t.task.share;
     let end = from + t.task.share;

@@ -17,14 +17,14 @@ use Rattle.wire.specs.declared.command.GroupCommand.{GroupCommand}
 use Rattle.wire.specs.declared.kind.MessageKind.{MessageKind}
 use Rattle.wire.specs.declared.kind.Reading.{Reading}
 use Rattle.wire.specs.declared.kind.Message.{Message}
-use Rattle.wire.specs.Bytes.{dataIn}
+use Rattle.wire.specs.Bytes.{data_in}
 use Rattle.links.specs.declared.memory.Link.{Link}
 use Rattle.links.specs.declared.name.Place.{Place}
 use Rattle.links.specs.declared.search.Found.{Found}
-use Rattle.links.specs.Record.{isFit, records}
-use Rattle.links.specs.Name.{placeOf}
-use Rattle.links.specs.Search.{isFound, searchOf}
-use Rattle.links.proofs.Following.{by-found}
+use Rattle.links.specs.Record.{is_fit, records}
+use Rattle.links.specs.Name.{place_of}
+use Rattle.links.specs.Search.{is_found, search_of}
+use Rattle.links.proofs.Following.{by_found}
 use Rattle.load.specs.declared.entry.Entry.{Entry}
 use Rattle.load.specs.declared.state.Load.{Load}
 use Rattle.module.specs.declared.state.Module.{Module}
@@ -33,22 +33,22 @@ use Rattle.module.specs.declared.deed.LoadEntry.{LoadEntry}
 use Rattle.module.specs.declared.deed.GroupDeed.{GroupDeed}
 use Rattle.module.specs.declared.plan.Plan.{Plan}
 use Rattle.module.specs.Change.{apply}
-use Rattle.module.specs.Deed.{limited, groupedBy}
+use Rattle.module.specs.Deed.{limited, grouped_by}
 use Rattle.module.specs.Module.{kind_of}
-use Rattle.module.specs.Plan.{deedPlan}
-use Rattle.shared.specs.Standard.{flagBytes, flagsTold}
-use Rattle.shared.specs.Extended.{getDeed, setDeed, propertyRows, propertyDeed, propertiesDeed, recordRows, recordDeed, databaseDeed}
-use Rattle.shared.specs.Table.{sharedDeed}
+use Rattle.module.specs.Plan.{deed_plan}
+use Rattle.shared.specs.Standard.{flag_bytes, flags_told}
+use Rattle.shared.specs.Extended.{get_deed, set_deed, property_rows, property_deed, properties_deed, record_rows, record_deed, database_deed}
+use Rattle.shared.specs.Table.{shared_deed}
 use Rattle.decide.specs.declared.rule.Ruling.{Ruling}
-use Rattle.decide.specs.Dispatch.{entryBy, deedBy, groupDeedBy}
-use Rattle.decide.specs.Groups.{broadcastBy, cleanupBy}
-use Rattle.decide.specs.Decide.{needsNoLink, directPlan, wantedOf, plan_of}
-use Rattle.decide.specs.Ruling.{readRuling, rulingBy}
+use Rattle.decide.specs.Dispatch.{entry_by, deed_by, group_deed_by}
+use Rattle.decide.specs.Groups.{broadcast_by, cleanup_by}
+use Rattle.decide.specs.Decide.{needs_no_link, direct_plan, wanted_of, plan_of}
+use Rattle.decide.specs.Ruling.{read_ruling, ruling_by}
 
 -- a kind's table has loads of its own kind
-own-kind : (load : Load) (r : Request) (d : List ℕ) (command : Command) → kind_of (entryBy load r d command).load ≡ kind_of load
-own-kind (Load.Dimmer lamp) r d command = refl
-own-kind (Load.Outlet sockets) r d command = refl
+own_kind : (load : Load) (r : Request) (d : List ℕ) (command : Command) → kind_of (entry_by load r d command).load ≡ kind_of load
+own_kind (Load.Dimmer lamp) r d command = refl
+own_kind (Load.Outlet sockets) r d command = refl
 
 module _ (m : Module) where
   -- the module after it is of the same kind
@@ -61,40 +61,40 @@ module _ (m : Module) where
 
   module _ (r : Request) (d : List ℕ) (n : ℕ) where
     abbrev SameDeed : Deed → Type 0
-    SameDeed deed = Same (deedPlan m r deed)
+    SameDeed deed = Same (deed_plan m r deed)
 
     limited-same : (a b x : ℕ) (deed : Deed) → SameDeed deed → SameDeed (limited a b x deed)
     unfolding limited
     limited-same a b x deed h = either SameDeed (within a b x) h refl
 
-    told_same : SameDeed (flagsTold m r.command2)
-    unfolding flagsTold
-    told_same = by_rows SameDeed r.command2 Deed.Unlisted (flagBytes m) ((λ _. refl) or (λ _. refl) or tt) refl
+    told_same : SameDeed (flags_told m r.command2)
+    unfolding flags_told
+    told_same = by_rows SameDeed r.command2 Deed.Unlisted (flag_bytes m) ((λ _. refl) or (λ _. refl) or tt) refl
 
-    properties-same : SameDeed (propertiesDeed r d)
-    unfolding propertiesDeed propertyDeed
+    properties-same : SameDeed (properties_deed r d)
+    unfolding properties_deed property_deed
     properties-same =
         either SameDeed (eqb r.command2 0x00)
-        (by_rows SameDeed (dataIn d 2) Deed.Unlisted (propertyRows d) ((λ _. refl) or (λ _. limited-same _ _ _ _ refl) or tt) refl)
+        (by_rows SameDeed (data_in d 2) Deed.Unlisted (property_rows d) ((λ _. refl) or (λ _. limited-same _ _ _ _ refl) or tt) refl)
         refl
 
-    get-same : (place : Place) → SameDeed (getDeed d place)
+    get-same : (place : Place) → SameDeed (get_deed d place)
     get-same (Place.Record k) = refl
     get-same Place.Illegal = refl
 
-    set_same : (place : Place) → SameDeed (setDeed d place)
+    set_same : (place : Place) → SameDeed (set_deed d place)
     set_same (Place.Record k) = limited-same _ _ _ _ refl
     set_same Place.Illegal = refl
 
-    database-same : SameDeed (databaseDeed r d n)
-    unfolding databaseDeed recordDeed
+    database-same : SameDeed (database_deed r d n)
+    unfolding database_deed record_deed
     database-same =
-        let place : Place = placeOf n (dataIn d 3 * 256 + dataIn d 4) in
+        let place : Place = place_of n (data_in d 3 * 256 + data_in d 4) in
         either SameDeed (eqb r.command2 0x00)
-        (by_rows SameDeed (dataIn d 2) Deed.Unlisted (recordRows d place) ((λ _. get-same place) or (λ _. set_same place) or tt) refl)
+        (by_rows SameDeed (data_in d 2) Deed.Unlisted (record_rows d place) ((λ _. get-same place) or (λ _. set_same place) or tt) refl)
         refl
 
-    shared_same : (command : Command) → SameDeed (sharedDeed m r d n command)
+    shared_same : (command : Command) → SameDeed (shared_deed m r d n command)
     shared_same (Command.Standard (Standard.Open OpenCommand.Ping)) = refl
     shared_same (Command.Standard (Standard.Open OpenCommand.IdRequest)) = refl
     shared_same (Command.Standard (Standard.Module ModuleCommand.EngineVersion)) = refl
@@ -106,48 +106,48 @@ module _ (m : Module) where
     shared_same (Command.Extended Extended.Database) = database-same
     shared_same (Command.Extended Extended.Load) = refl
 
-    by-entry : (command : Command) (next : Load) (entry : Entry) → kind_of next ≡ kind_of m.load → SameDeed (deedBy m r d n command next entry)
+    by-entry : (command : Command) (next : Load) (entry : Entry) → kind_of next ≡ kind_of m.load → SameDeed (deed_by m r d n command next entry)
     by-entry command next Entry.Done e = e
     by-entry command next (Entry.Shows x) e = refl
     by-entry command next (Entry.Shown p) e = refl
     by-entry command next Entry.Shared e = shared_same command
     by-entry command next Entry.Unlisted e = refl
 
-    direct-same : (command : Command) (found : Found) → Same (directPlan m r d n command found)
-    unfolding directPlan
+    direct-same : (command : Command) (found : Found) → Same (direct_plan m r d n command found)
+    unfolding direct_plan
     direct-same command found =
-        let own : LoadEntry = entryBy m.load r d command in
-        either Same (needsNoLink command || isFound found) (by-entry command own.load own.entry (own-kind m.load r d command)) refl
+        let own : LoadEntry = entry_by m.load r d command in
+        either Same (needs_no_link command || is_found found) (by-entry command own.load own.entry (own_kind m.load r d command)) refl
 
-  grouped-same : (load : Load) (isListed : Bool) → kind_of load ≡ kind_of m.load → SameGroup (groupedBy load isListed)
-  unfolding groupedBy
-  grouped-same load isListed e = either SameGroup isListed e tt
+  grouped_same : (load : Load) (is_listed : Bool) → kind_of load ≡ kind_of m.load → SameGroup (grouped_by load is_listed)
+  unfolding grouped_by
+  grouped_same load is_listed e = either SameGroup is_listed e tt
 
-  group-same : (load : Load) (command : GroupCommand) (link : Link) → kind_of load ≡ kind_of m.load → SameGroup (groupDeedBy load command link)
-  group-same (Load.Dimmer lamp) command link e = grouped-same _ _ e
-  group-same (Load.Outlet sockets) command link e = grouped-same _ _ e
+  group_same : (load : Load) (command : GroupCommand) (link : Link) → kind_of load ≡ kind_of m.load → SameGroup (group_deed_by load command link)
+  group_same (Load.Dimmer lamp) command link e = grouped_same _ _ e
+  group_same (Load.Outlet sockets) command link e = grouped_same _ _ e
 
-  broadcast-same : (deed : GroupDeed) → SameGroup deed → Same (broadcastBy deed)
-  broadcast-same (GroupDeed.Done load) e = e
-  broadcast-same GroupDeed.Unlisted e = refl
+  broadcast_same : (deed : GroupDeed) → SameGroup deed → Same (broadcast_by deed)
+  broadcast_same (GroupDeed.Done load) e = e
+  broadcast_same GroupDeed.Unlisted e = refl
 
-  cleanup-same : (r : Request) (deed : GroupDeed) → SameGroup deed → Same (cleanupBy r deed)
-  cleanup-same r (GroupDeed.Done load) e = e
-  cleanup-same r GroupDeed.Unlisted e = refl
+  cleanup_same : (r : Request) (deed : GroupDeed) → SameGroup deed → Same (cleanup_by r deed)
+  cleanup_same r (GroupDeed.Done load) e = e
+  cleanup_same r GroupDeed.Unlisted e = refl
 
-  plan-same : (kind : MessageKind) (d : List ℕ) (n : ℕ) (found : Found) → Same (plan_of m kind d n found)
-  plan-same (MessageKind.Direct r command) d n found = direct-same r d n command found
-  plan-same (MessageKind.Cleanup r command) d n found =
-      by-found Same found _ _ (λ link. cleanup-same r (groupDeedBy m.load command link) (group-same m.load command link refl)) refl
-  plan-same (MessageKind.Broadcast from to command) d n found =
-      by-found Same found _ _ (λ link. broadcast-same (groupDeedBy m.load command link) (group-same m.load command link refl)) refl
-  plan-same MessageKind.Foreign d n found = refl
+  plan_same : (kind : MessageKind) (d : List ℕ) (n : ℕ) (found : Found) → Same (plan_of m kind d n found)
+  plan_same (MessageKind.Direct r command) d n found = direct-same r d n command found
+  plan_same (MessageKind.Cleanup r command) d n found =
+      by_found Same found _ _ (λ link. cleanup_same r (group_deed_by m.load command link) (group_same m.load command link refl)) refl
+  plan_same (MessageKind.Broadcast from to command) d n found =
+      by_found Same found _ _ (λ link. broadcast_same (group_deed_by m.load command link) (group_same m.load command link refl)) refl
+  plan_same MessageKind.Foreign d n found = refl
 
-  read_same : (l d : List ℕ) (reading : Reading) → Same (readRuling m l d reading).plan
-  read_same l d (Reading.Heard kind) = plan-same kind d (records l) (searchOf l (wantedOf kind)).found
+  read_same : (l d : List ℕ) (reading : Reading) → Same (read_ruling m l d reading).plan
+  read_same l d (Reading.Heard kind) = plan_same kind d (records l) (search_of l (wanted_of kind)).found
   read_same l d Reading.BadLength = refl
   read_same l d Reading.BadSum = refl
 
-  pub ruling-same : (l : List ℕ) (message : Message) → Same (rulingBy m l message).plan
-  unfolding rulingBy
-  ruling-same l message = either (λ (r : Ruling). Same r.plan) (isFit l) (read_same l message.«data» message.reading) refl
+  pub ruling_same : (l : List ℕ) (message : Message) → Same (ruling_by m l message).plan
+  unfolding ruling_by
+  ruling_same l message = either (λ (r : Ruling). Same r.plan) (is_fit l) (read_same l message.«data» message.reading) refl

@@ -3,7 +3,7 @@ use Rattle.std.specs.Prelude.{ℕ, List}
 use Rattle.wire.specs.declared.request.Request.{Request}
 use Rattle.wire.specs.declared.command.Command.{Command}
 use Rattle.wire.specs.declared.command.GroupCommand.{GroupCommand}
-use Rattle.wire.specs.Bytes.{dataIn}
+use Rattle.wire.specs.Bytes.{data_in}
 use Rattle.links.specs.declared.memory.Link.{Link}
 use Rattle.load.specs.declared.entry.Entry.{Entry}
 use Rattle.load.specs.declared.state.Load.{Load}
@@ -12,9 +12,9 @@ use Rattle.module.specs.declared.change.Change.{Change}
 use Rattle.module.specs.declared.deed.Deed.{Deed}
 use Rattle.module.specs.declared.deed.LoadEntry.{LoadEntry}
 use Rattle.module.specs.declared.deed.GroupDeed.{GroupDeed}
-use Rattle.module.specs.Deed.{acked, showing, groupedBy}
-use Rattle.shared.specs.Extended.{shownDeed}
-use Rattle.shared.specs.Table.{sharedDeed}
+use Rattle.module.specs.Deed.{acked, showing, grouped_by}
+use Rattle.shared.specs.Extended.{shown_deed}
+use Rattle.shared.specs.Table.{shared_deed}
 use Rattle.dimmer.specs.declared.lamp.LampEntry.{LampEntry}
 use Rattle.dimmer.specs.declared.groups.LampGroup.{LampGroup}
 use Rattle.dimmer.specs.Table as dimmer
@@ -25,37 +25,37 @@ use Rattle.outlet.specs.Table as outlet
 use Rattle.outlet.specs.Groups as outlet-groups
 
 -- what the kind's own table has, with a load of that kind
-abbrev pub lampEntry : LampEntry → LoadEntry
-lampEntry x = record { load = Load.Dimmer x.lamp; entry = x.entry }
+abbrev pub lamp_entry : LampEntry → LoadEntry
+lamp_entry x = record { load = Load.Dimmer x.lamp; entry = x.entry }
 
-abbrev pub socketsEntry : SocketsEntry → LoadEntry
-socketsEntry x = record { load = Load.Outlet x.sockets; entry = x.entry }
+abbrev pub sockets_entry : SocketsEntry → LoadEntry
+sockets_entry x = record { load = Load.Outlet x.sockets; entry = x.entry }
 
-abbrev pub entryBy : Load → Request → List ℕ → Command → LoadEntry
-entryBy (Load.Dimmer lamp) r d command = lampEntry (dimmer.entry_of lamp r d command)
-entryBy (Load.Outlet sockets) r d command = socketsEntry (outlet.entry_of sockets r d command)
+abbrev pub entry_by : Load → Request → List ℕ → Command → LoadEntry
+entry_by (Load.Dimmer lamp) r d command = lamp_entry (dimmer.entry_of lamp r d command)
+entry_by (Load.Outlet sockets) r d command = sockets_entry (outlet.entry_of sockets r d command)
 
 -- what that comes to; with the data bytes, and n records in link memory
-abbrev pub deedBy : Module → Request → List ℕ → ℕ → Command → Load → Entry → Deed
-deedBy m r d n command next Entry.Done = acked (Change.Load next)
-deedBy m r d n command next (Entry.Shows x) = showing x
-deedBy m r d n command next (Entry.Shown p) = shownDeed m (dataIn d 1) p
-deedBy m r d n command next Entry.Shared = sharedDeed m r d n command
-deedBy m r d n command next Entry.Unlisted = Deed.Unlisted
+abbrev pub deed_by : Module → Request → List ℕ → ℕ → Command → Load → Entry → Deed
+deed_by m r d n command next Entry.Done = acked (Change.Load next)
+deed_by m r d n command next (Entry.Shows x) = showing x
+deed_by m r d n command next (Entry.Shown p) = shown_deed m (data_in d 1) p
+deed_by m r d n command next Entry.Shared = shared_deed m r d n command
+deed_by m r d n command next Entry.Unlisted = Deed.Unlisted
 
-abbrev pub ownDeed : Module → Request → List ℕ → ℕ → Command → LoadEntry → Deed
-ownDeed m r d n command x = deedBy m r d n command x.load x.entry
+abbrev pub own_deed : Module → Request → List ℕ → ℕ → Command → LoadEntry → Deed
+own_deed m r d n command x = deed_by m r d n command x.load x.entry
 
 abbrev pub deed_of : Module → Request → List ℕ → ℕ → Command → Deed
-deed_of m r d n command = ownDeed m r d n command (entryBy m.load r d command)
+deed_of m r d n command = own_deed m r d n command (entry_by m.load r d command)
 
 -- by the deciding record
-abbrev pub lampGroup : LampGroup → GroupDeed
-lampGroup x = groupedBy (Load.Dimmer x.lamp) x.is_listed
+abbrev pub lamp_group : LampGroup → GroupDeed
+lamp_group x = grouped_by (Load.Dimmer x.lamp) x.is_listed
 
-abbrev pub socketsGroup : SocketsGroup → GroupDeed
-socketsGroup x = groupedBy (Load.Outlet x.sockets) x.is_listed
+abbrev pub sockets_group : SocketsGroup → GroupDeed
+sockets_group x = grouped_by (Load.Outlet x.sockets) x.is_listed
 
-abbrev pub groupDeedBy : Load → GroupCommand → Link → GroupDeed
-groupDeedBy (Load.Dimmer lamp) command link = lampGroup (dimmer-groups.group_of lamp command link)
-groupDeedBy (Load.Outlet sockets) command link = socketsGroup (outlet-groups.group_of sockets command link)
+abbrev pub group_deed_by : Load → GroupCommand → Link → GroupDeed
+group_deed_by (Load.Dimmer lamp) command link = lamp_group (dimmer-groups.group_of lamp command link)
+group_deed_by (Load.Outlet sockets) command link = sockets_group (outlet-groups.group_of sockets command link)

@@ -4,7 +4,7 @@ use Rattle.wire.specs.declared.address.Address.{Address}
 use Rattle.wire.specs.declared.request.Request.{Request}
 use Rattle.wire.specs.declared.command.GroupCommand.{GroupCommand}
 use Rattle.links.specs.declared.search.Found.{Found}
-use Rattle.links.specs.Search.{ifFound}
+use Rattle.links.specs.Search.{if_found}
 use Rattle.reply.specs.declared.due.ReplyType.{ReplyType}
 use Rattle.reply.specs.declared.due.Due.{Due}
 use Rattle.results.specs.declared.Outcome.{Outcome}
@@ -13,7 +13,7 @@ use Rattle.module.specs.declared.change.Change.{Change}
 use Rattle.module.specs.declared.deed.GroupDeed.{GroupDeed}
 use Rattle.module.specs.declared.plan.Plan.{Plan}
 use Rattle.module.specs.Plan.{headed, done, refused, unlinked, unlisted}
-use Rattle.decide.specs.Dispatch.{groupDeedBy}
+use Rattle.decide.specs.Dispatch.{group_deed_by}
 
 -- a broadcast calls a group: To = 00 00 group, Command 1 in 11 to 14
 abbrev pub is_call : Address → GroupCommand → Bool
@@ -26,17 +26,17 @@ abbrev pub unconcerned : Plan
 unconcerned = refused Outcome.Unconcerned Due.Nothing
 
 -- a broadcast is never answered
-abbrev pub broadcastBy : GroupDeed → Plan
-broadcastBy (GroupDeed.Done load) = done (Change.Load load) Due.Nothing
-broadcastBy GroupDeed.Unlisted = unconcerned
+abbrev pub broadcast_by : GroupDeed → Plan
+broadcast_by (GroupDeed.Done load) = done (Change.Load load) Due.Nothing
+broadcast_by GroupDeed.Unlisted = unconcerned
 
-abbrev pub broadcastPlan : Load → GroupCommand → Found → Plan
-broadcastPlan load command found = ifFound found (λ link. broadcastBy (groupDeedBy load command link)) unconcerned
+abbrev pub broadcast_plan : Load → GroupCommand → Found → Plan
+broadcast_plan load command found = if_found found (λ link. broadcast_by (group_deed_by load command link)) unconcerned
 
 -- a cleanup is ACKed with both commands; no record gives 6, then Command 1 outside 11 to 14 gives 7
-abbrev pub cleanupBy : Request → GroupDeed → Plan
-cleanupBy r (GroupDeed.Done load) = done (Change.Load load) (Due.Alone (headed ReplyType.CleanupAck r r.command1 r.command2))
-cleanupBy r GroupDeed.Unlisted = unlisted ReplyType.CleanupNak r
+abbrev pub cleanup_by : Request → GroupDeed → Plan
+cleanup_by r (GroupDeed.Done load) = done (Change.Load load) (Due.Alone (headed ReplyType.CleanupAck r r.command1 r.command2))
+cleanup_by r GroupDeed.Unlisted = unlisted ReplyType.CleanupNak r
 
-abbrev pub cleanupPlan : Load → Request → GroupCommand → Found → Plan
-cleanupPlan load r command found = ifFound found (λ link. cleanupBy r (groupDeedBy load command link)) (unlinked ReplyType.CleanupNak r)
+abbrev pub cleanup_plan : Load → Request → GroupCommand → Found → Plan
+cleanup_plan load r command found = if_found found (λ link. cleanup_by r (group_deed_by load command link)) (unlinked ReplyType.CleanupNak r)

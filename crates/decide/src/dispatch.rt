@@ -1,6 +1,6 @@
 // What a command comes to by the module's load: the one place that names a kind.
 ghost use Rattle.std.specs.Prelude.{◌≡◌};
-ghost use Rattle.decide.specs.Dispatch.{entryBy, deedBy, deed_of, groupDeedBy};
+ghost use Rattle.decide.specs.Dispatch.{entry_by, deed_by, deed_of, group_deed_by};
 
 use links::memory::Link;
 use load::entry::Entry;
@@ -38,7 +38,7 @@ pub(crate) fn deed_of(
 
 // What the kind's own table has for it.
 fn entry_by(load: Load, r: Request, data: [u8; 14], command: Command) -> LoadEntry
-    ensures { result ≡ entryBy load r «data» command }
+    ensures { result ≡ entry_by load r «data» command }
 {
     match load {
         Load::Dimmer(lamp) => {
@@ -64,7 +64,7 @@ fn entry_by(load: Load, r: Request, data: [u8; 14], command: Command) -> LoadEnt
 
 // A group's command, by its deciding record.
 pub(crate) fn group_deed_by(load: Load, command: GroupCommand, link: Link) -> GroupDeed
-    ensures { result ≡ groupDeedBy load command link }
+    ensures { result ≡ group_deed_by load command link }
 {
     match load {
         Load::Dimmer(lamp) => {

@@ -1,6 +1,6 @@
 // What comes of broadcasts and cleanups ("Groups").
 ghost use Rattle.std.specs.Prelude.{◌≡◌};
-ghost use Rattle.decide.specs.Groups.{is_call, unconcerned, broadcastBy, broadcastPlan, cleanupBy, cleanupPlan};
+ghost use Rattle.decide.specs.Groups.{is_call, unconcerned, broadcast_by, broadcast_plan, cleanup_by, cleanup_plan};
 
 use crate::dispatch::group_deed_by;
 use links::search::Found;
@@ -26,7 +26,7 @@ pub(crate) fn is_call(to: Address, command: GroupCommand) -> bool
 }
 
 pub(crate) fn broadcast_plan(load: Load, command: GroupCommand, found: Found) -> Plan
-    ensures { result ≡ broadcastPlan load command found }
+    ensures { result ≡ broadcast_plan load command found }
 {
     match found {
         Found::NoSearch => unconcerned(),
@@ -37,7 +37,7 @@ pub(crate) fn broadcast_plan(load: Load, command: GroupCommand, found: Found) ->
 }
 
 fn broadcast_by(deed: GroupDeed) -> Plan
-    ensures { result ≡ broadcastBy deed }
+    ensures { result ≡ broadcast_by deed }
 {
     match deed {
         GroupDeed::Done(load) => done(Change::Load(load), Due::Nothing),
@@ -53,7 +53,7 @@ fn unconcerned() -> Plan
 }
 
 pub(crate) fn cleanup_plan(load: Load, r: Request, command: GroupCommand, found: Found) -> Plan
-    ensures { result ≡ cleanupPlan load r command found }
+    ensures { result ≡ cleanup_plan load r command found }
 {
     match found {
         Found::NoSearch => unlinked(ReplyType::CleanupNak, r),
@@ -64,7 +64,7 @@ pub(crate) fn cleanup_plan(load: Load, r: Request, command: GroupCommand, found:
 }
 
 fn cleanup_by(r: Request, deed: GroupDeed) -> Plan
-    ensures { result ≡ cleanupBy r deed }
+    ensures { result ≡ cleanup_by r deed }
 {
     match deed {
         GroupDeed::Done(load) => done(

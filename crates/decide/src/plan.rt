@@ -1,6 +1,6 @@
 // Whom a message makes the module look for, and what comes of what was found ("Direct commands", "Groups").
 ghost use Rattle.std.specs.Prelude.{◌≡◌};
-ghost use Rattle.decide.specs.Decide.{isOpen, needsNoLink, directWanted, senderInGroup, broadcastWanted, wantedOf, directPlan, plan_of};
+ghost use Rattle.decide.specs.Decide.{is_open, needs_no_link, direct_wanted, sender_in_group, broadcast_wanted, wanted_of, direct_plan, plan_of};
 
 use crate::dispatch::deed_of;
 use crate::groups::{broadcast_plan, cleanup_plan, is_call};
@@ -16,7 +16,7 @@ use wire::request::Request;
 
 // Whose record the search is to look for.
 pub(crate) fn wanted_of(kind: MessageKind) -> Wanted
-    ensures { result ≡ wantedOf kind }
+    ensures { result ≡ wanted_of kind }
 {
     match kind {
         MessageKind::Direct(r, command) => direct_wanted(r, command),
@@ -27,7 +27,7 @@ pub(crate) fn wanted_of(kind: MessageKind) -> Wanted
 }
 
 fn direct_wanted(r: Request, command: Command) -> Wanted
-    ensures { result ≡ directWanted r command }
+    ensures { result ≡ direct_wanted r command }
 {
     let from = r.from;
     if needs_no_link(command) {
@@ -39,14 +39,14 @@ fn direct_wanted(r: Request, command: Command) -> Wanted
 
 // A cleanup has its group in Command 2.
 fn sender_in_group(r: Request) -> Wanted
-    ensures { result ≡ senderInGroup r }
+    ensures { result ≡ sender_in_group r }
 {
     let from = r.from;
     Wanted::Responder(from, r.command2)
 }
 
 fn broadcast_wanted(from: Address, to: Address, command: GroupCommand) -> Wanted
-    ensures { result ≡ broadcastWanted from to command }
+    ensures { result ≡ broadcast_wanted from to command }
 {
     if is_call(to, command) {
         Wanted::Responder(from, to.low)
@@ -56,7 +56,7 @@ fn broadcast_wanted(from: Address, to: Address, command: GroupCommand) -> Wanted
 }
 
 fn needs_no_link(command: Command) -> bool
-    ensures { result ≡ needsNoLink command }
+    ensures { result ≡ needs_no_link command }
 {
     match command {
         Command::Standard(s) => is_open(s),
@@ -66,7 +66,7 @@ fn needs_no_link(command: Command) -> bool
 
 // A standard ping or ID request.
 fn is_open(command: Standard) -> bool
-    ensures { result ≡ isOpen command }
+    ensures { result ≡ is_open command }
 {
     match command {
         Standard::Open(_) => true,
@@ -102,7 +102,7 @@ fn direct_plan(
     command: Command,
     found: Found,
 ) -> Plan
-    ensures { result ≡ directPlan m r «data» records command found }
+    ensures { result ≡ direct_plan m r «data» records command found }
 {
     // One call, as the search has: a compiler then keeps the plan in registers.
     if needs_no_link(command) | is_found(found) {

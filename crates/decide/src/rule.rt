@@ -1,6 +1,6 @@
 // What is decided of a message before the reply room is looked at: refusals 2, 1, 3, 4, 8, 6, 7, in this order ("Result numbers").
 ghost use Rattle.std.specs.Prelude.{◌≡◌};
-ghost use Rattle.decide.specs.Ruling.{silence, kindRuling, readRuling, rulingBy};
+ghost use Rattle.decide.specs.Ruling.{silence, kind_ruling, read_ruling, ruling_by};
 
 use crate::plan::{plan_of, wanted_of};
 use links::memory::{is_fit, records};
@@ -20,7 +20,7 @@ pub struct Ruling {
 
 // Of a message as it was read.
 pub fn ruling_by(m: Module, links: &[u8], message: Message) -> Ruling
-    ensures { result ≡ rulingBy m links.now message }
+    ensures { result ≡ ruling_by m links.now message }
 {
     if !is_fit(links) {
         return silence(Outcome::BadMemory);
@@ -29,7 +29,7 @@ pub fn ruling_by(m: Module, links: &[u8], message: Message) -> Ruling
 }
 
 fn read_ruling(m: Module, links: &[u8], message: Message) -> Ruling
-    ensures { result ≡ readRuling m links.now message.«data» message.reading }
+    ensures { result ≡ read_ruling m links.now message.«data» message.reading }
 {
     let reading = message.reading;
     let data = message.data;
@@ -42,7 +42,7 @@ fn read_ruling(m: Module, links: &[u8], message: Message) -> Ruling
 
 // The search that the kind asks for decides.
 fn kind_ruling(m: Module, links: &[u8], kind: MessageKind, data: [u8; 14]) -> Ruling
-    ensures { result ≡ kindRuling m links.now «data» kind }
+    ensures { result ≡ kind_ruling m links.now «data» kind }
 {
     let searched = search(links, wanted_of(kind));
     let found = searched.found;

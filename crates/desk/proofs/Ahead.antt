@@ -1,9 +1,9 @@
 -- What is seen behind the first n bytes, with its place counted from the start of all.
 use Rattle.std.proofs.Common.{◌≡◌, ℕ, ◌+◌, ◌<◌, ◌≤◌, List, length, drop, sym, refl, ap, ◌∙◌, arith, length-drop}
 use Rattle.modem.specs.declared.arrived.Seen.{Seen}
-use Rattle.modem.specs.Arrived.{seekOf}
+use Rattle.modem.specs.Arrived.{seek_of}
 use Rattle.modem.proofs.Placed.{found, waits}
-use Rattle.desk.specs.Ahead.{further, seekBehind}
+use Rattle.desk.specs.Ahead.{further, seek_behind}
 
 apart : {A : Type 0} {k n i : ℕ} → Seen.Whole k n ≡ Seen.Waiting i → A
 apart p = absurd (let z : ◌≡◌ {A = ℕ} 0 1 = cc in omega arith)
@@ -12,7 +12,7 @@ apart p = absurd (let z : ◌≡◌ {A = ℕ} 0 1 = cc in omega arith)
 pub record Next (n : ℕ) (s : List ℕ) (k size : ℕ) : Type 0 where
   pub at : ℕ
   pub place : k ≡ n + at
-  pub seen : seekOf (drop n s) ≡ Seen.Whole at size
+  pub seen : seek_of (drop n s) ≡ Seen.Whole at size
   pub least : 0 < size
   pub lies : k + size ≤ length s
 
@@ -20,14 +20,14 @@ pub record Next (n : ℕ) (s : List ℕ) (k size : ℕ) : Type 0 where
 pub record Rest (n : ℕ) (s : List ℕ) (k : ℕ) : Type 0 where
   pub at : ℕ
   pub place : k ≡ n + at
-  pub seen : seekOf (drop n s) ≡ Seen.Waiting at
+  pub seen : seek_of (drop n s) ≡ Seen.Waiting at
   pub lies : k ≤ length s
 
 module _ (n : ℕ) (s : List ℕ) (inside : n ≤ length s) where
-  pub next : (k size : ℕ) → Seen.Whole k size ≡ seekBehind n s → Next n s k size
-  next k size e = go (seekOf (drop n s)) refl
+  pub next : (k size : ℕ) → Seen.Whole k size ≡ seek_behind n s → Next n s k size
+  next k size e = go (seek_of (drop n s)) refl
     where
-      go : (v : Seen) → seekOf (drop n s) ≡ v → Next n s k size
+      go : (v : Seen) → seek_of (drop n s) ≡ v → Next n s k size
       go (Seen.Whole i z) q =
           let p : Seen.Whole k size ≡ Seen.Whole (n + i) z = e ∙ ap (further n) q in
           let place : k ≡ n + i = cc in
@@ -42,10 +42,10 @@ module _ (n : ℕ) (s : List ℕ) (inside : n ≤ length s) where
           }
       go (Seen.Waiting i) q = apart (e ∙ ap (further n) q)
 
-  pub none : (k : ℕ) → Seen.Waiting k ≡ seekBehind n s → Rest n s k
-  none k e = go (seekOf (drop n s)) refl
+  pub none : (k : ℕ) → Seen.Waiting k ≡ seek_behind n s → Rest n s k
+  none k e = go (seek_of (drop n s)) refl
     where
-      go : (v : Seen) → seekOf (drop n s) ≡ v → Rest n s k
+      go : (v : Seen) → seek_of (drop n s) ≡ v → Rest n s k
       go (Seen.Whole i z) q = apart (sym (e ∙ ap (further n) q))
       go (Seen.Waiting i) q =
           let p : Seen.Waiting k ≡ Seen.Waiting (n + i) = e ∙ ap (further n) q in

@@ -4,10 +4,10 @@ use lib.Seq.{take-append-le}
 use borrow.Rule.Slice.PartMut.{put_mid}
 use Rattle.basis.specs.Laid.{laid}
 use Rattle.basis.proofs.Tests.{clash}
-use Rattle.modem.specs.Stream.{cutBy}
+use Rattle.modem.specs.Stream.{cut_by}
 use Rattle.desk.specs.declared.answer.Desk.{Desk}
 use Rattle.desk.specs.declared.serve.Progress.{Progress}
-use Rattle.desk.specs.Desk.{closedOf}
+use Rattle.desk.specs.Desk.{closed_of}
 use Rattle.desk.specs.Passed.{ArrivedPromise, HeldPromise, ReadPromise}
 use Rattle.desk.proofs.Passed.{still, then, more, less}
 
@@ -16,23 +16,23 @@ pub untouched : (n : ℕ) (xs ys : List ℕ) → n ≤ length xs → take n (put
 untouched n xs ys h = take_at (take n xs) _ n (length-take-le n xs h)
 
 -- what is kept stands at the start
-at-start : (used : ℕ) (xs : List ℕ) → take (length xs - used) (laid (drop used xs) xs) ≡ drop used xs
-at-start used xs = take_at (drop used xs) _ (length xs - used) (length-drop used xs)
+at_start : (used : ℕ) (xs : List ℕ) → take (length xs - used) (laid (drop used xs) xs) ≡ drop used xs
+at_start used xs = take_at (drop used xs) _ (length xs - used) (length-drop used xs)
 
 pub moved : (before : Desk) (l room s links held : List ℕ) (p : Progress) → ArrivedPromise before l room s p links
     → held ≡ laid (drop p.count s) s → length held ≡ length s
     → HeldPromise before l room s (record { desk = p.desk; count = length held - p.count }) links held
 moved before l room s links held p a e as_long =
     let left : take (length held - p.count) held ≡ drop p.count s =
-    (λ i. take (as_long i - p.count) (e i)) ∙ at-start p.count s in
+    (λ i. take (as_long i - p.count) (e i)) ∙ at_start p.count s in
     record { inside = omega arith; passed = rw left a.passed; all = λ h. rw left (a.all h) }
 
 -- some bytes more behind those that were there, and what comes of them all
-pub read-on : (before : Progress) (l room held : List ℕ) (p : Progress) (links now part rest : List ℕ) (k : ℕ) → before.count ≤ k
+pub read_on : (before : Progress) (l room held : List ℕ) (p : Progress) (links now part rest : List ℕ) (k : ℕ) → before.count ≤ k
     → take before.count now ≡ take before.count held
     → HeldPromise before.desk l room (take k now) p links part
     → ReadPromise before l room held p links (part ++ rest)
-read-on before l room held p links now part rest k h e a =
+read_on before l room held p links now part rest k h e a =
     let n : ℕ = before.count in
     let seam : take n held ++ drop n (take k now) ≡ take k now =
     ap (λ (z : List ℕ). z ++ drop n (take k now)) (sym e ∙ sym (take-take n k now h)) ∙ take-append-drop n (take k now) in
@@ -43,7 +43,7 @@ read-on before l room held p links now part rest k h e a =
     }
 
 -- nothing more: the desk is closed over what it has
-pub no_read : (before : Progress) (l room held : List ℕ) (p : Progress) (now : List ℕ) → p ≡ record { desk = closedOf before.desk; count = before.count }
+pub no_read : (before : Progress) (l room held : List ℕ) (p : Progress) (now : List ℕ) → p ≡ record { desk = closed_of before.desk; count = before.count }
     → before.count ≤ length now → take before.count now ≡ take before.count held
     → ReadPromise before l room held p l now
 no_read before l room held p now is h e =
@@ -54,21 +54,21 @@ no_read before l room held p now is h e =
       served =
           record {
             inside = h;
-            passed = rw (e, append-nil (take n held)) (still before.desk (closedOf before.desk) l room (take n held) refl refl);
+            passed = rw (e, append-nil (take n held)) (still before.desk (closed_of before.desk) l room (take n held) refl refl);
             all = λ o. clash o refl;
           };
     })
 
 -- before the first read nothing is held
 pub at_first : (desk : Desk) (l room held : List ℕ) → ReadPromise (record { desk = desk; count = 0 }) l room held (record { desk = desk; count = 0 }) l held
-unfolding cutBy
+unfolding cut_by
 at_first desk l room held = record { read = []; served = record { inside = omega arith; passed = still desk desk l room [] refl refl; all = λ _. refl } }
 
 -- one read after another
-pub go_on : (before p p' : Progress) (l links links' room room' held now now' : List ℕ) → length room' ≡ length room → p.desk.is_open ≡ true
+pub go_on_lem : (before p p' : Progress) (l links links' room room' held now now' : List ℕ) → length room' ≡ length room → p.desk.is_open ≡ true
     → ReadPromise before l room held p links now → ReadPromise p links room' now p' links' now'
     → ReadPromise before l room held p' links' now'
-go_on before p p' l links links' room room' held now now' e o a b =
+go_on_lem before p p' l links links' room room' held now now' e o a b =
     let s : List ℕ = take before.count held ++ a.read in
     let left : List ℕ = take p.count now in
     let both : s ++ b.read ≡ take before.count held ++ (a.read ++ b.read) = append_assoc (take before.count held) a.read b.read in
@@ -79,6 +79,6 @@ go_on before p p' l links links' room room' held now now' e o a b =
     record { read = a.read ++ b.read; served = record { inside = b.served.inside; passed = rw both at passed; all = b.served.all } }
 
 -- an open desk has less than a frame in hand
-pub in-hand : (before p : Progress) (l room held links now : List ℕ) → ReadPromise before l room held p links now → p.desk.is_open ≡ true → p.count < 25
-in-hand before p l room held links now a o =
+pub in_hand : (before p : Progress) (l room held links now : List ℕ) → ReadPromise before l room held p links now → p.desk.is_open ≡ true → p.count < 25
+in_hand before p l room held links now a o =
     omega (arith, less (take p.count now) (a.served.all o), length-take-le p.count now a.served.inside)

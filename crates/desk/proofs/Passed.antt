@@ -2,59 +2,59 @@
 use Rattle.std.proofs.Common.{◌≡◌, ℕ, ◌+◌, ◌<◌, List, [], ◌∷◌, ◌++◌, length, take, drop, sym, refl, ap, ◌∙◌, append_assoc, append-nil, arith, drop-drop}
 use mathlib.Core.List.{map-append}
 use Rattle.seating.specs.Heed.{Heed}
-use Rattle.seating.specs.Sat.{Sat, Told, heedIn, satBy, heedAll, satAfter, toldBy}
-use Rattle.seating.proofs.Laws.{heed-parts, sat-parts, heed-alike}
+use Rattle.seating.specs.Sat.{Sat, Told, heed_in, sat_by, heed_all, sat_after, told_by}
+use Rattle.seating.proofs.Laws.{heed_parts, sat-parts, heed-alike}
 use Rattle.modem.specs.declared.arrived.Seen.{Seen}
-use Rattle.modem.specs.Arrived.{seekOf}
-use Rattle.modem.specs.Stream.{Cut, cut, call_in, callsIn}
-use Rattle.modem.proofs.Cut.{waiting, whole-first, short, in_pieces}
+use Rattle.modem.specs.Arrived.{seek_of}
+use Rattle.modem.specs.Stream.{Cut, cut, call_in, calls_in}
+use Rattle.modem.proofs.Cut.{waiting, whole_first, short, in_pieces}
 use Rattle.desk.specs.declared.answer.Desk.{Desk}
-use Rattle.desk.specs.Desk.{satAt, Answered}
-use Rattle.desk.specs.Tally.{placeOf, countedAt, counted, countedAll}
+use Rattle.desk.specs.Desk.{sat_at, Answered}
+use Rattle.desk.specs.Tally.{place_of, counted_at, counted, counted_all}
 use Rattle.desk.specs.Passed.{Passed, Unfinished, ArrivedPromise}
 use Rattle.desk.proofs.Ahead.{Next, Rest}
 
 -- counted in two parts
-count-parts : (tally : List ℕ) (first second : List Heed) → countedAll tally (first ++ second) ≡ countedAll (countedAll tally first) second
-unfolding countedAll
-count-parts tally [] second = refl
-count-parts tally (t ∷ first) second = count-parts (counted tally t) first second
+count_parts : (tally : List ℕ) (first second : List Heed) → counted_all tally (first ++ second) ≡ counted_all (counted_all tally first) second
+unfolding counted_all
+count_parts tally [] second = refl
+count_parts tally (t ∷ first) second = count_parts (counted tally t) first second
 
 -- one room or another of its length: the same seats, and the same counts
 module _ (room room' : List ℕ) (e : length room ≡ length room') where
-  alike : (st : Sat) (frame : List ℕ) → toldBy st (heedIn st (call_in room frame)) ≡ toldBy st (heedIn st (call_in room' frame))
+  alike : (st : Sat) (frame : List ℕ) → told_by st (heed_in st (call_in room frame)) ≡ told_by st (heed_in st (call_in room' frame))
   alike st frame = heed-alike st.seating st.links (drop 2 frame) room room' e
 
-  left-alike : (st : Sat) (frame : List ℕ) → satBy st (heedIn st (call_in room frame)) ≡ satBy st (heedIn st (call_in room' frame))
+  left-alike : (st : Sat) (frame : List ℕ) → sat_by st (heed_in st (call_in room frame)) ≡ sat_by st (heed_in st (call_in room' frame))
   left-alike st frame = ap (λ (x : Told). x.left) (alike st frame)
 
-  end-alike : (st : Sat) (frames : List (List ℕ)) → satAfter st (callsIn room frames) ≡ satAfter st (callsIn room' frames)
-  unfolding satAfter
-  end-alike st [] = refl
-  end-alike st (f ∷ frames) =
-      end-alike (satBy st (heedIn st (call_in room f))) frames
-      ∙ ap (λ (z : Sat). satAfter z (callsIn room' frames)) (left-alike st f)
+  end_alike : (st : Sat) (frames : List (List ℕ)) → sat_after st (calls_in room frames) ≡ sat_after st (calls_in room' frames)
+  unfolding sat_after
+  end_alike st [] = refl
+  end_alike st (f ∷ frames) =
+      end_alike (sat_by st (heed_in st (call_in room f))) frames
+      ∙ ap (λ (z : Sat). sat_after z (calls_in room' frames)) (left-alike st f)
 
-  count-alike : (st : Sat) (tally : List ℕ) (frames : List (List ℕ))
-      → countedAll tally (heedAll st (callsIn room frames)) ≡ countedAll tally (heedAll st (callsIn room' frames))
-  unfolding heedAll countedAll
-  count-alike st tally [] = refl
-  count-alike st tally (f ∷ frames) =
-      count-alike (satBy st (heedIn st (call_in room f))) (counted tally (heedIn st (call_in room f))) frames
-      ∙ (λ i. countedAll (countedAt (countedAt tally (alike st f i).number) (12 + placeOf (alike st f i).whom)) (heedAll (left-alike st f i) (callsIn room' frames)))
+  count_alike : (st : Sat) (tally : List ℕ) (frames : List (List ℕ))
+      → counted_all tally (heed_all st (calls_in room frames)) ≡ counted_all tally (heed_all st (calls_in room' frames))
+  unfolding heed_all counted_all
+  count_alike st tally [] = refl
+  count_alike st tally (f ∷ frames) =
+      count_alike (sat_by st (heed_in st (call_in room f))) (counted tally (heed_in st (call_in room f))) frames
+      ∙ (λ i. counted_all (counted_at (counted_at tally (alike st f i).number) (12 + place_of (alike st f i).whom)) (heed_all (left-alike st f i) (calls_in room' frames)))
 
 -- nothing is done yet, with the desk open or closed
-pub still : (desk after : Desk) (l room s : List ℕ) → satAt after l ≡ satAt desk l → after.tally ≡ desk.tally → Passed desk l room s after l s
-unfolding satAfter heedAll countedAll
+pub still : (desk after : Desk) (l room s : List ℕ) → sat_at after l ≡ sat_at desk l → after.tally ≡ desk.tally → Passed desk l room s after l s
+unfolding sat_after heed_all counted_all
 still desk after l room s p q = record { served = []; frames = refl; kept = refl; state = p; tally = q }
 
 -- the next frame is served
-pub one : (desk after : Desk) (l room s links : List ℕ) (k n : ℕ) → seekOf s ≡ Seen.Whole k n
-    → Answered desk l (heedIn (satAt desk l) (call_in room (take n (drop k s)))) after links
+pub one : (desk after : Desk) (l room s links : List ℕ) (k n : ℕ) → seek_of s ≡ Seen.Whole k n
+    → Answered desk l (heed_in (sat_at desk l) (call_in room (take n (drop k s)))) after links
     → Passed desk l room s after links (drop (k + n) s)
-unfolding satAfter heedAll countedAll
+unfolding sat_after heed_all counted_all
 one desk after l room s links k n e a =
-    let c = whole-first s k n e in
+    let c = whole_first s k n e in
     record {
       served = take n (drop k s) ∷ [];
       frames = ap (λ (z : Cut). z.frames) c;
@@ -67,22 +67,22 @@ one desk after l room s links k n e a =
 module _ (before middle after : Desk) (l l' l'' room room' : List ℕ) (e : length room' ≡ length room) (s rest left : List ℕ) where
   pub then : Passed before l room s middle l' rest → Passed middle l' room' rest after l'' left → Passed before l room s after l'' left
   then p q =
-      let st : Sat = satAt before l in
+      let st : Sat = sat_at before l in
       let calls = map-append (call_in room) p.served q.served in
-      let middle-is : satAt middle l' ≡ satAfter st (callsIn room p.served) = p.state in
-      let states : satAt after l'' ≡ satAfter st (callsIn room (p.served ++ q.served)) =
+      let middle-is : sat_at middle l' ≡ sat_after st (calls_in room p.served) = p.state in
+      let states : sat_at after l'' ≡ sat_after st (calls_in room (p.served ++ q.served)) =
       q.state
-      ∙ end-alike room' room e (satAt middle l') q.served
-      ∙ ap (λ (z : Sat). satAfter z (callsIn room q.served)) middle-is
-      ∙ sym (sat-parts st (callsIn room p.served) (callsIn room q.served))
-      ∙ ap (satAfter st) (sym calls) in
-      let counts : after.tally ≡ countedAll before.tally (heedAll st (callsIn room (p.served ++ q.served))) =
+      ∙ end_alike room' room e (sat_at middle l') q.served
+      ∙ ap (λ (z : Sat). sat_after z (calls_in room q.served)) middle-is
+      ∙ sym (sat-parts st (calls_in room p.served) (calls_in room q.served))
+      ∙ ap (sat_after st) (sym calls) in
+      let counts : after.tally ≡ counted_all before.tally (heed_all st (calls_in room (p.served ++ q.served))) =
       q.tally
-      ∙ count-alike room' room e (satAt middle l') middle.tally q.served
-      ∙ (λ i. countedAll (p.tally i) (heedAll (middle-is i) (callsIn room q.served)))
-      ∙ sym (count-parts before.tally (heedAll st (callsIn room p.served)) (heedAll (satAfter st (callsIn room p.served)) (callsIn room q.served)))
-      ∙ ap (countedAll before.tally) (sym (heed-parts st (callsIn room p.served) (callsIn room q.served)))
-      ∙ ap (λ z. countedAll before.tally (heedAll st z)) (sym calls) in
+      ∙ count_alike room' room e (sat_at middle l') middle.tally q.served
+      ∙ (λ i. counted_all (p.tally i) (heed_all (middle-is i) (calls_in room q.served)))
+      ∙ sym (count_parts before.tally (heed_all st (calls_in room p.served)) (heed_all (sat_after st (calls_in room p.served)) (calls_in room q.served)))
+      ∙ ap (counted_all before.tally) (sym (heed_parts st (calls_in room p.served) (calls_in room q.served)))
+      ∙ ap (λ z. counted_all before.tally (heed_all st z)) (sym calls) in
       record {
         served = p.served ++ q.served;
         frames = p.frames ∙ ap (λ (z : List (List ℕ)). p.served ++ z) q.frames ∙ sym (append_assoc p.served q.served (cut left).frames);
@@ -107,7 +107,7 @@ more before after l room s links left new p u =
     }
 
 -- where a frame is waited for, nothing that is left can be skipped: cut again, it is as it was
-pub unfinished : (s : List ℕ) (k : ℕ) → seekOf s ≡ Seen.Waiting k → Unfinished (drop k s)
+pub unfinished : (s : List ℕ) (k : ℕ) → seek_of s ≡ Seen.Waiting k → Unfinished (drop k s)
 unfinished s k e =
     let c : cut s ≡ record { frames = []; kept = drop k s } = waiting s k e in
     let again = ap cut (sym (append-nil s)) ∙ in_pieces s [] in
@@ -117,7 +117,7 @@ unfinished s k e =
     (λ i. record { frames = sym frames i; kept = sym kept i }) ∙ c
 
 -- what is skipped before a wait leaves no trace
-skip : (before after : Desk) (l room s links left : List ℕ) → Passed before l room s after links left → (k : ℕ) → seekOf left ≡ Seen.Waiting k
+skip : (before after : Desk) (l room s links left : List ℕ) → Passed before l room s after links left → (k : ℕ) → seek_of left ≡ Seen.Waiting k
     → Passed before l room s after links (drop k left)
 skip before after l room s links left p k e =
     let c : cut left ≡ cut (drop k left) = waiting left k e ∙ sym (unfinished left k e) in
@@ -141,7 +141,7 @@ module _ (before desk : Desk) (l room s links : List ℕ) (used : ℕ) (p : Pass
       }
 
   pub one_more : (after : Desk) (room' links' : List ℕ) → length room' ≡ length room → (k n : ℕ) → Next used s k n
-      → Answered desk links (heedIn (satAt desk links) (call_in room' (take n (drop k s)))) after links'
+      → Answered desk links (heed_in (sat_at desk links) (call_in room' (take n (drop k s)))) after links'
       → Passed before l room s after links' (drop (k + n) s)
   one_more after room' links' e k n f a =
       let at-frame : drop f.at (drop used s) ≡ drop k s = drop-drop f.at used s ∙ ap (λ (z : ℕ). drop z s) (sym f.place) in

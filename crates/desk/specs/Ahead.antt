@@ -1,7 +1,7 @@
 -- The next frame behind bytes that are done with.
 use Rattle.std.specs.Prelude.{ℕ, ◌+◌, List, drop}
 use Rattle.modem.specs.declared.arrived.Seen.{Seen}
-use Rattle.modem.specs.Arrived.{seekOf}
+use Rattle.modem.specs.Arrived.{seek_of}
 
 -- n places further on
 abbrev pub further : ℕ → Seen → Seen
@@ -9,5 +9,5 @@ further n (Seen.Whole k size) = Seen.Whole (n + k) size
 further n (Seen.Waiting k) = Seen.Waiting (n + k)
 
 -- behind the first n bytes, with its place counted from the start of all
-abbrev pub seekBehind : ℕ → List ℕ → Seen
-seekBehind n s = further n (seekOf (drop n s))
+abbrev pub seek_behind : ℕ → List ℕ → Seen
+seek_behind n s = further n (seek_of (drop n s))

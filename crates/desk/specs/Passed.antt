@@ -1,19 +1,19 @@
 -- How far a desk has come with what has arrived ("The program").
 use Rattle.std.specs.Prelude.{◌≡◌, ℕ, ◌≤◌, true, List, [], ◌++◌, length, take, drop}
-use Rattle.seating.specs.Sat.{heedAll, satAfter}
-use Rattle.modem.specs.Stream.{cut, callsIn}
+use Rattle.seating.specs.Sat.{heed_all, sat_after}
+use Rattle.modem.specs.Stream.{cut, calls_in}
 use Rattle.desk.specs.declared.answer.Desk.{Desk}
 use Rattle.desk.specs.declared.serve.Progress.{Progress}
-use Rattle.desk.specs.Desk.{satAt}
-use Rattle.desk.specs.Tally.{countedAll}
+use Rattle.desk.specs.Desk.{sat_at}
+use Rattle.desk.specs.Tally.{counted_all}
 
 -- the frames of s that stand before what is left were served, each once and in their order
 pub record Passed (before : Desk) (l room s : List ℕ) (after : Desk) (links left : List ℕ) : Type 0 where
   pub served : List (List ℕ)
   pub frames : (cut s).frames ≡ served ++ (cut left).frames
   pub kept : (cut s).kept ≡ (cut left).kept
-  pub state : satAt after links ≡ satAfter (satAt before l) (callsIn room served)
-  pub tally : after.tally ≡ countedAll before.tally (heedAll (satAt before l) (callsIn room served))
+  pub state : sat_at after links ≡ sat_after (sat_at before l) (calls_in room served)
+  pub tally : after.tally ≡ counted_all before.tally (heed_all (sat_at before l) (calls_in room served))
 
 -- no whole frame, and no byte that can be skipped
 abbrev pub Unfinished : List ℕ → Type 0

@@ -4,20 +4,20 @@ use Rattle.row.specs.declared.progress.Whom.{Whom}
 use Rattle.seating.specs.Heed.{Heed}
 
 -- the places of a class, one for every seat, and one for nobody
-abbrev pub placeOf : Whom → ℕ
-placeOf (Whom.Seat i) = i
-placeOf Whom.All = 16
-placeOf Whom.Nobody = 17
+abbrev pub place_of : Whom → ℕ
+place_of (Whom.Seat i) = i
+place_of Whom.All = 16
+place_of Whom.Nobody = 17
 
 -- one more at this place; a count that is full begins anew
-abbrev pub countedAt : List ℕ → ℕ → List ℕ
-countedAt tally k = slice_set tally k ((slice_index tally k + 1) % 2 ^ 64)
+abbrev pub counted_at : List ℕ → ℕ → List ℕ
+counted_at tally k = slice_set tally k ((slice_index tally k + 1) % 2 ^ 64)
 
 -- what came of a frame: its result, and behind the twelve results the seat that it was for
 abbrev pub counted : List ℕ → Heed → List ℕ
-counted tally t = countedAt (countedAt tally t.number) (12 + placeOf t.whom)
+counted tally t = counted_at (counted_at tally t.number) (12 + place_of t.whom)
 
 -- and of one frame after another
-unfoldable pub countedAll : List ℕ → List Heed → List ℕ
-countedAll tally [] = tally
-countedAll tally (t ∷ ts) = countedAll (counted tally t) ts
+unfoldable pub counted_all : List ℕ → List Heed → List ℕ
+counted_all tally [] = tally
+counted_all tally (t ∷ ts) = counted_all (counted tally t) ts

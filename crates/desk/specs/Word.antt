@@ -4,7 +4,7 @@ use Rattle.basis.specs.Choice.{choose}
 use Rattle.basis.specs.Table.{Row, among, ◌⇒◌}
 use Rattle.roster.specs.declared.word.Kind.{Kind}
 use Rattle.roster.specs.declared.word.Meaning.{Meaning}
-use Rattle.roster.specs.Word.{isSame, named}
+use Rattle.roster.specs.Word.{is_same, named}
 use Rattle.desk.specs.declared.Show.{Show}
 use Rattle.desk.specs.declared.word.Wish.{Wish}
 use Rattle.desk.specs.declared.word.ClassWish.{ClassWish}
@@ -22,15 +22,15 @@ by_kind Meaning.Unknown show = Wish.Unknown
 
 -- a kind, or `lines`
 unfoldable pub one_word : List ℕ → Wish
-one_word w = choose (isSame w lines) (Wish.Bench Kind.Dimmer Show.Lines) (by_kind (named w) Show.Frames)
+one_word w = choose (is_same w lines) (Wish.Bench Kind.Dimmer Show.Lines) (by_kind (named w) Show.Frames)
 
 -- a kind, and then `lines`
 unfoldable pub two_words : List ℕ → List ℕ → Wish
-two_words w v = choose (isSame v lines) (by_kind (named w) Show.Lines) Wish.Unknown
+two_words w v = choose (is_same v lines) (by_kind (named w) Show.Lines) Wish.Unknown
 
 -- by how many words there are, the program's own name counted
-abbrev pub byCount : List ℕ → List ℕ → List (Row Wish)
-byCount w v =
+abbrev pub by_count : List ℕ → List ℕ → List (Row Wish)
+by_count w v =
     0 ⇒ plain ∷
     1 ⇒ plain ∷
     2 ⇒ one_word w ∷
@@ -38,10 +38,10 @@ byCount w v =
     []
 
 unfoldable pub wished : ℕ → List ℕ → List ℕ → Wish
-wished count w v = among count Wish.Unknown (byCount w v)
+wished count w v = among count Wish.Unknown (by_count w v)
 
 -- of a class: `lines`, or nothing
-unfoldable pub classWished : ℕ → List ℕ → ClassWish
-classWished count w =
+unfoldable pub class_wished : ℕ → List ℕ → ClassWish
+class_wished count w =
     choose (nat_lt count 2) (ClassWish.Shown Show.Frames)
-    (choose (count == 2 && isSame w lines) (ClassWish.Shown Show.Lines) ClassWish.Unknown)
+    (choose (count == 2 && is_same w lines) (ClassWish.Shown Show.Lines) ClassWish.Unknown)

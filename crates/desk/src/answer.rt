@@ -2,8 +2,8 @@
 ghost use Rattle.std.specs.Prelude.{◌≡◌, ◌+◌};
 ghost use Rattle.io.specs.Counts.{IsPrefixLen};
 ghost use Rattle.modem.specs.Frames.{framed};
-ghost use Rattle.desk.specs.Tally.{placeOf, countedAt};
-ghost use Rattle.desk.specs.Desk.{freshDesk, closedOf, AnswerPromise, Handed};
+ghost use Rattle.desk.specs.Tally.{place_of, counted_at};
+ghost use Rattle.desk.specs.Desk.{fresh_desk, closed_of, AnswerPromise, Handed};
 
 use crate::Show;
 use libc::STDOUT_FILENO;
@@ -24,7 +24,7 @@ pub(crate) struct Desk {
 
 // Nothing has been served yet.
 pub(crate) fn fresh(seating: Seating) -> Desk
-    ensures { result ≡ freshDesk seating }
+    ensures { result ≡ fresh_desk seating }
 {
     Desk {
         seating: seating,
@@ -34,7 +34,7 @@ pub(crate) fn fresh(seating: Seating) -> Desk
 }
 
 pub(crate) fn closed(desk: Desk) -> Desk
-    ensures { result ≡ closedOf desk }
+    ensures { result ≡ closed_of desk }
 {
     Desk {
         is_open: false,
@@ -67,7 +67,7 @@ pub(crate) fn answer(
 fn answered(desk: Desk, h: Heeded, is_told: bool) -> Desk
     ensures { result ≡ record {
       seating = h.next;
-      tally = countedAt (countedAt desk.tally h.number) (12 + placeOf h.whom);
+      tally = counted_at (counted_at desk.tally h.number) (12 + place_of h.whom);
       is_open = is_told;
     } }
 {
@@ -84,7 +84,7 @@ fn answered(desk: Desk, h: Heeded, is_told: bool) -> Desk
 }
 
 fn counted(tally: Tally, i: usize) -> Tally
-    ensures { result ≡ countedAt tally i }
+    ensures { result ≡ counted_at tally i }
 {
     let mut counted = tally;
     if i < 30 {
@@ -95,7 +95,7 @@ fn counted(tally: Tally, i: usize) -> Tally
 
 // A class has sixteen places: 16 is for every seat, 17 for nobody.
 fn place_of(whom: Whom) -> usize
-    ensures { result ≡ placeOf whom }
+    ensures { result ≡ place_of whom }
 {
     match whom {
         Whom::Seat(i) => i,
@@ -106,7 +106,7 @@ fn place_of(whom: Whom) -> usize
 
 // Behind the twelve results there is a count for each seat, one for every seat, and one for nobody.
 fn counted_for(tally: Tally, place: usize) -> Tally
-    ensures { result ≡ countedAt tally (12 + place) }
+    ensures { result ≡ counted_at tally (12 + place) }
 {
     if place < 18 {
         return counted(tally, 12 + place);

@@ -1,7 +1,7 @@
 // Every whole frame that arrives is served at once; what is left of a frame waits for more.
 ghost use Rattle.std.specs.Prelude.{◌≡◌, ◌*◌, ◌<◌, ◌≤◌, length};
-ghost use Rattle.desk.specs.Desk.{closedOf};
-ghost use Rattle.desk.specs.Ahead.{seekBehind};
+ghost use Rattle.desk.specs.Desk.{closed_of};
+ghost use Rattle.desk.specs.Ahead.{seek_behind};
 ghost use Rattle.desk.specs.Passed.{ArrivedPromise, HeldPromise, ReadPromise, EndPromise};
 
 use crate::Show;
@@ -71,7 +71,7 @@ fn serve_one_read(
 
 // No more is read.
 fn stopped(before: Progress) -> Progress
-    ensures { result ≡ record { desk = closedOf before.desk; count = before.count } }
+    ensures { result ≡ record { desk = closed_of before.desk; count = before.count } }
 {
     let desk = before.desk;
     Progress {
@@ -141,7 +141,7 @@ fn serve_arrived(
 // The next frame behind the first `used` bytes; its place is counted from the start of all.
 fn seek_from(arrived: &[u8], used: usize) -> Seen
     requires { used ≤ length arrived.now }
-    ensures { result ≡ seekBehind used arrived.now }
+    ensures { result ≡ seek_behind used arrived.now }
 {
     match seek(&arrived[used..]) {
         Seen::Whole(k, n) => {

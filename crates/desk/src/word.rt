@@ -1,6 +1,6 @@
 // What the words of the command line ask for.
 ghost use Rattle.std.specs.Prelude.{◌≡◌};
-ghost use Rattle.desk.specs.Word.{by_kind, one_word, two_words, wished, classWished};
+ghost use Rattle.desk.specs.Word.{by_kind, one_word, two_words, wished, class_wished};
 
 use crate::Show;
 use libc::STDERR_FILENO;
@@ -83,7 +83,7 @@ pub(crate) fn asked_of_class() -> ClassWish {
 }
 
 fn class_wished(count: usize, word: &[u8]) -> ClassWish
-    ensures { result ≡ classWished count word.now }
+    ensures { result ≡ class_wished count word.now }
 {
     if count < 2 {
         return ClassWish::Shown(Show::Frames);

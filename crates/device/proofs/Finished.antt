@@ -7,18 +7,18 @@ use native.Mathlib.Omega.{arith}
 use lib.Dec.{ltb}
 use lib.ListN.{length}
 use Rattle.basis.specs.Choice.{choose}
-use Rattle.basis.specs.Laid.{laidIfFits}
+use Rattle.basis.specs.Laid.{laid_if_fits}
 use Rattle.wire.specs.declared.kind.Message.{Message}
 use Rattle.reply.specs.declared.send.Sent.{Sent}
-use Rattle.reply.specs.Reply.{replyOf}
-use Rattle.reply.specs.Sending.{sentOf, Sending}
+use Rattle.reply.specs.Reply.{reply_of}
+use Rattle.reply.specs.Sending.{sent_of, Sending}
 use Rattle.results.specs.declared.Outcome.{Outcome}
 use Rattle.module.specs.declared.state.Module.{Module}
 use Rattle.module.specs.declared.plan.Plan.{Plan}
 use Rattle.module.specs.Change.{apply}
 use Rattle.decide.specs.declared.rule.Ruling.{Ruling}
-use Rattle.decide.specs.Ruling.{rulingBy}
-use Rattle.device.specs.Step.{linksAfter, ifSent, length_of, stepBy, Comes}
+use Rattle.decide.specs.Ruling.{ruling_by}
+use Rattle.device.specs.Step.{links_after, if_sent, length_of, step_by, Comes}
 
 apart : {A : Type 0} (n : ℕ) → Sent.Short ≡ Sent.Whole n → A
 apart n p = absurd (let z : ◌≡◌ {A = ℕ} 0 1 = cc in omega arith)
@@ -26,30 +26,30 @@ apart n p = absurd (let z : ◌≡◌ {A = ℕ} 0 1 = cc in omega arith)
 whole_is : (n k : ℕ) → Sent.Whole n ≡ Sent.Whole k → n ≡ k
 whole_is n k p = cc
 
-module _ (m : Module) (l : List ℕ) (heard : Message) (room : List ℕ) (r : Ruling) (e : r ≡ rulingBy m l heard) where
+module _ (m : Module) (l : List ℕ) (heard : Message) (room : List ℕ) (r : Ruling) (e : r ≡ ruling_by m l heard) where
   -- the reply that is due
   abbrev due : List ℕ
-  due = replyOf m.identity.address l r.plan.due
+  due = reply_of m.identity.address l r.plan.due
 
   -- too short a room: nothing has happened
-  short : (after : List ℕ) → Sending due room Sent.Short after → Comes (stepBy m l heard room) (record { outcome = Outcome.NoRoom; length = 0; read = r.read; next = m }) l after
-  unfolding sentOf laidIfFits choose
+  short : (after : List ℕ) → Sending due room Sent.Short after → Comes (step_by m l heard room) (record { outcome = Outcome.NoRoom; length = 0; read = r.read; next = m }) l after
+  unfolding sent_of laid_if_fits choose
   short after p = go (ltb (length room) (length due)) refl
     where
-      go : (t : Bool) → ltb (length room) (length due) ≡ t → Comes (stepBy m l heard room) (record { outcome = Outcome.NoRoom; length = 0; read = r.read; next = m }) l after
+      go : (t : Bool) → ltb (length room) (length due) ≡ t → Comes (step_by m l heard room) (record { outcome = Outcome.NoRoom; length = 0; read = r.read; next = m }) l after
       go true q = record { number = rw (← e, q); outcome = rw (← e, q); sent = rw (← e, q); read = rw (← e, q); next = rw (← e, q); memory = rw (← e, q); room_after = rw (← e, q) (rw q at p.leaves) }
       go false q = apart (length due) (rw q at p.answers)
 
   -- room enough: all has happened that was decided
   whole : (n : ℕ) (next : Module) (links after : List ℕ)
       → next ≡ apply r.plan.change m
-      → links ≡ linksAfter l heard.«data» r.plan.writing
+      → links ≡ links_after l heard.«data» r.plan.writing
       → Sending due room (Sent.Whole n) after
-      → Comes (stepBy m l heard room) (record { outcome = r.plan.outcome; length = n; read = r.read; next = next }) links after
-  unfolding sentOf laidIfFits choose
+      → Comes (step_by m l heard room) (record { outcome = r.plan.outcome; length = n; read = r.read; next = next }) links after
+  unfolding sent_of laid_if_fits choose
   whole n next links after x w p = go (ltb (length room) (length due)) refl
     where
-      go : (t : Bool) → ltb (length room) (length due) ≡ t → Comes (stepBy m l heard room) (record { outcome = r.plan.outcome; length = n; read = r.read; next = next }) links after
+      go : (t : Bool) → ltb (length room) (length due) ≡ t → Comes (step_by m l heard room) (record { outcome = r.plan.outcome; length = n; read = r.read; next = next }) links after
       go true q = apart n (sym (rw q at p.answers))
       go false q =
           let long : n ≡ length due = whole_is n (length due) (rw q at p.answers) in
@@ -64,8 +64,8 @@ module _ (m : Module) (l : List ℕ) (heard : Message) (room : List ℕ) (r : Ru
           }
 
   -- whatever it came to
-  pub finished : (sent : Sent) (after : List ℕ) → Sending due room sent after → (plan : Plan) → plan ≡ ifSent sent r.plan → (next : Module) → next ≡ apply plan.change m
-      → (links : List ℕ) → links ≡ linksAfter l heard.«data» plan.writing
-      → Comes (stepBy m l heard room) (record { outcome = plan.outcome; length = length_of sent; read = r.read; next = next }) links after
+  pub finished : (sent : Sent) (after : List ℕ) → Sending due room sent after → (plan : Plan) → plan ≡ if_sent sent r.plan → (next : Module) → next ≡ apply plan.change m
+      → (links : List ℕ) → links ≡ links_after l heard.«data» plan.writing
+      → Comes (step_by m l heard room) (record { outcome = plan.outcome; length = length_of sent; read = r.read; next = next }) links after
   finished Sent.Short after p plan q next x links w = rw q (rw (rw q at x, rw q at w) (short after p))
   finished (Sent.Whole n) after p plan q next x links w = rw q (whole n next links after (rw q at x) (rw q at w) p)

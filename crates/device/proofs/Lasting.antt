@@ -8,9 +8,9 @@ use Rattle.module.specs.declared.state.Module.{Module}
 use Rattle.module.specs.declared.change.Change.{Change}
 use Rattle.module.specs.Module.{kind_of}
 use Rattle.module.specs.Change.{apply}
-use Rattle.decide.specs.Ruling.{heardBy, rulingBy}
-use Rattle.decide.proofs.SameKind.{ruling-same}
-use Rattle.device.specs.Step.{Step, stepBy, step_of}
+use Rattle.decide.specs.Ruling.{heard_by, ruling_by}
+use Rattle.decide.proofs.SameKind.{ruling_same}
+use Rattle.device.specs.Step.{Step, step_by, step_of}
 
 lasts : (m : Module) (change : Change) → (apply change m).identity ≡ m.identity
 lasts m Change.Nothing = refl
@@ -20,14 +20,14 @@ lasts m (Change.X10 house unit) = refl
 lasts m (Change.Load x) = refl
 lasts m Change.NextDelta = refl
 
-pub identity-by : (m : Module) (l : List ℕ) (heard : Message) (room : List ℕ) → (stepBy m l heard room).next.identity ≡ m.identity
-identity-by m l heard room = either (λ (t : Step). t.next.identity ≡ m.identity) _ refl (lasts m (rulingBy m l heard).plan.change)
+pub identity_by : (m : Module) (l : List ℕ) (heard : Message) (room : List ℕ) → (step_by m l heard room).next.identity ≡ m.identity
+identity_by m l heard room = either (λ (t : Step). t.next.identity ≡ m.identity) _ refl (lasts m (ruling_by m l heard).plan.change)
 
-pub same-identity : (m : Module) (l s room : List ℕ) → (step_of m l s room).next.identity ≡ m.identity
-same-identity m l s room = identity-by m l (heardBy m s) room
+pub same_identity : (m : Module) (l s room : List ℕ) → (step_of m l s room).next.identity ≡ m.identity
+same_identity m l s room = identity_by m l (heard_by m s) room
 
-pub kind-by : (m : Module) (l : List ℕ) (heard : Message) (room : List ℕ) → kind_of (stepBy m l heard room).next.load ≡ kind_of m.load
-kind-by m l heard room = either (λ (t : Step). kind_of t.next.load ≡ kind_of m.load) _ refl (ruling-same m l heard)
+pub kind_by : (m : Module) (l : List ℕ) (heard : Message) (room : List ℕ) → kind_of (step_by m l heard room).next.load ≡ kind_of m.load
+kind_by m l heard room = either (λ (t : Step). kind_of t.next.load ≡ kind_of m.load) _ refl (ruling_same m l heard)
 
 pub same_kind : (m : Module) (l s room : List ℕ) → kind_of (step_of m l s room).next.load ≡ kind_of m.load
-same_kind m l s room = kind-by m l (heardBy m s) room
+same_kind m l s room = kind_by m l (heard_by m s) room

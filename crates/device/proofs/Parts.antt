@@ -2,14 +2,14 @@
 use mathlib.Core.Path.{◌≡◌, refl, ap}
 use mathlib.Core.List.{List, [], ◌∷◌, ◌++◌}
 use Rattle.device.specs.Step.{Step}
-use Rattle.device.specs.Run.{Call, State, call_of, leftBy, run_of, end_of}
+use Rattle.device.specs.Run.{Call, State, call_of, left_by, run_of, end_of}
 
-pub run-parts : (s : State) (first second : List Call) → run_of s (first ++ second) ≡ run_of s first ++ run_of (end_of s first) second
+pub run_parts : (s : State) (first second : List Call) → run_of s (first ++ second) ≡ run_of s first ++ run_of (end_of s first) second
 unfolding run_of end_of
-run-parts s [] second = refl
-run-parts s (c ∷ first) second = ap (λ (z : List Step). call_of s c ∷ z) (run-parts (leftBy (call_of s c)) first second)
+run_parts s [] second = refl
+run_parts s (c ∷ first) second = ap (λ (z : List Step). call_of s c ∷ z) (run_parts (left_by (call_of s c)) first second)
 
-pub end-parts : (s : State) (first second : List Call) → end_of s (first ++ second) ≡ end_of (end_of s first) second
+pub end_parts : (s : State) (first second : List Call) → end_of s (first ++ second) ≡ end_of (end_of s first) second
 unfolding end_of
-end-parts s [] second = refl
-end-parts s (c ∷ first) second = end-parts (leftBy (call_of s c)) first second
+end_parts s [] second = refl
+end_parts s (c ∷ first) second = end_parts (left_by (call_of s c)) first second

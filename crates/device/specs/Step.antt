@@ -2,11 +2,11 @@
 use Rattle.std.specs.Prelude.{ℕ, ◌≡◌, List, [], ltb, length, take, drop}
 use Rattle.basis.specs.Choice.{choose}
 use Rattle.basis.specs.Laid.{laid}
-use Rattle.links.specs.Write.{writtenIfThere}
+use Rattle.links.specs.Write.{written_if_there}
 use Rattle.wire.specs.declared.kind.Message.{Message}
 use Rattle.reply.specs.declared.due.Due.{Due}
 use Rattle.reply.specs.declared.send.Sent.{Sent}
-use Rattle.reply.specs.Reply.{replyOf}
+use Rattle.reply.specs.Reply.{reply_of}
 use Rattle.results.specs.declared.Outcome.{Outcome}
 use Rattle.results.specs.Number.{number_of}
 use Rattle.module.specs.declared.state.Module.{Module}
@@ -16,7 +16,7 @@ use Rattle.module.specs.Change.{apply}
 use Rattle.module.specs.Plan.{refused}
 use Rattle.decide.specs.declared.rule.Ruling.{Ruling}
 use Rattle.device.specs.declared.step.Answer.{Answer}
-use Rattle.decide.specs.Ruling.{heardBy, rulingBy}
+use Rattle.decide.specs.Ruling.{heard_by, ruling_by}
 
 -- all that comes out of a call
 pub record Step : Type 0 where
@@ -28,42 +28,42 @@ pub record Step : Type 0 where
   pub room : List ℕ
 
 -- link memory afterwards: the bytes of a write are those from Data 6 on
-abbrev pub linksAfter : List ℕ → List ℕ → Writing → List ℕ
-linksAfter l d Writing.Nothing = l
-linksAfter l d (Writing.Record k n) = writtenIfThere l k (take n (drop 5 d))
+abbrev pub links_after : List ℕ → List ℕ → Writing → List ℕ
+links_after l d Writing.Nothing = l
+links_after l d (Writing.Record k n) = written_if_there l k (take n (drop 5 d))
 
 -- result 5: nothing is sent and nothing altered; the count of the search is kept
 abbrev pub short_of : Module → List ℕ → List ℕ → Ruling → Step
 short_of m l room r = record { outcome = Outcome.NoRoom; reply = []; read = r.read; next = m; links = l; room = room }
 
 -- the reply goes to the start of the room, and the bytes behind it stay
-abbrev pub servedOf : Module → List ℕ → List ℕ → List ℕ → List ℕ → Ruling → Step
-servedOf m l d room reply r =
+abbrev pub served_of : Module → List ℕ → List ℕ → List ℕ → List ℕ → Ruling → Step
+served_of m l d room reply r =
     record {
       outcome = r.plan.outcome;
       reply = reply;
       read = r.read;
       next = apply r.plan.change m;
-      links = linksAfter l d r.plan.writing;
+      links = links_after l d r.plan.writing;
       room = laid reply room;
     }
 
-abbrev pub finishOf : Module → List ℕ → List ℕ → List ℕ → Ruling → Step
-finishOf m l d room r =
-    let reply : List ℕ = replyOf m.identity.address l r.plan.due in
-    choose (ltb (length room) (length reply)) (short_of m l room r) (servedOf m l d room reply r)
+abbrev pub finish_of : Module → List ℕ → List ℕ → List ℕ → Ruling → Step
+finish_of m l d room r =
+    let reply : List ℕ = reply_of m.identity.address l r.plan.due in
+    choose (ltb (length room) (length reply)) (short_of m l room r) (served_of m l d room reply r)
 
 -- of a message as it was read
-abbrev pub stepBy : Module → List ℕ → Message → List ℕ → Step
-stepBy m l heard room = finishOf m l heard.«data» room (rulingBy m l heard)
+abbrev pub step_by : Module → List ℕ → Message → List ℕ → Step
+step_by m l heard room = finish_of m l heard.«data» room (ruling_by m l heard)
 
 abbrev pub step_of : Module → List ℕ → List ℕ → List ℕ → Step
-step_of m l s room = stepBy m l (heardBy m s) room
+step_of m l s room = step_by m l (heard_by m s) room
 
 -- by what sending the reply came to: the plan that stands, and the length
-abbrev pub ifSent : Sent → Plan → Plan
-ifSent (Sent.Whole n) decided = decided
-ifSent Sent.Short decided = refused Outcome.NoRoom Due.Nothing
+abbrev pub if_sent : Sent → Plan → Plan
+if_sent (Sent.Whole n) decided = decided
+if_sent Sent.Short decided = refused Outcome.NoRoom Due.Nothing
 
 abbrev pub length_of : Sent → ℕ
 length_of (Sent.Whole n) = n

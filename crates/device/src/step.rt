@@ -1,6 +1,6 @@
 // One message to one module. Nothing is written before the whole reply is known to fit.
 ghost use Rattle.std.specs.Prelude.{◌≡◌};
-ghost use Rattle.device.specs.Step.{linksAfter, ifSent, length_of, stepBy, Comes, StepPromise};
+ghost use Rattle.device.specs.Step.{links_after, if_sent, length_of, step_by, Comes, StepPromise};
 
 use decide::rule::ruling_by;
 use links::write::write;
@@ -31,7 +31,7 @@ pub fn step(m: Module, links: &mut [u8], message: &[u8], room: &mut [u8]) -> Ans
 
 // The same of a message as it was read, for whoever reads once for several modules.
 pub fn serve(m: Module, links: &mut [u8], heard: Message, room: &mut [u8]) -> Answer
-    ensures { Comes (stepBy m links.old heard room.old) result links.new room.new }
+    ensures { Comes (step_by m links.old heard room.old) result links.new room.new }
 {
     let identity = m.identity;
     let data = heard.data;
@@ -53,7 +53,7 @@ pub fn serve(m: Module, links: &mut [u8], heard: Message, room: &mut [u8]) -> An
 
 // Where the reply did not fit, what was decided comes to result 5, and nothing is altered.
 fn if_sent(sent: Sent, decided: Plan) -> Plan
-    ensures { result ≡ ifSent sent decided }
+    ensures { result ≡ if_sent sent decided }
 {
     match sent {
         Sent::Whole(_) => decided,
@@ -72,7 +72,7 @@ fn length_of(sent: Sent) -> usize
 
 // The one place that alters link memory. The bytes of a write are those from Data 6 on.
 fn write_planned(links: &mut [u8], data: [u8; 14], plan: Plan)
-    ensures { links.new ≡ linksAfter links.old «data» plan.writing }
+    ensures { links.new ≡ links_after links.old «data» plan.writing }
 {
     let writing = plan.writing;
     match writing {

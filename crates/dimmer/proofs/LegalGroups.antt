@@ -5,7 +5,7 @@ use mathlib.Core.Bool.{true}
 use mathlib.Core.List.{List}
 use native.Mathlib.Omega.{arith}
 use Rattle.wire.specs.declared.command.GroupCommand.{GroupCommand}
-use Rattle.wire.specs.Bytes.{command1Of}
+use Rattle.wire.specs.Bytes.{command1_of}
 use Rattle.wire.specs.Asked.{GroupCommand1}
 use Rattle.wire.proofs.Commanded.{Commanded, turns-on, turns-off, neither}
 use Rattle.links.specs.declared.memory.Link.{Link}
@@ -20,7 +20,7 @@ module _ (lamp : Lamp) (s : List ℕ) (link : Link) where
   grouped x (on a b) = (a, omega arith)
   grouped x (off a b) = (omega arith, b)
 
-  pub says : (command : GroupCommand) → Commanded (command1Of s) command → (x : Lamp) → GroupDimmer lamp s link x
+  pub says : (command : GroupCommand) → Commanded (command1_of s) command → (x : Lamp) → GroupDimmer lamp s link x
       → group_of lamp command link ≡ record { lamp = x; is_listed = true }
   says command (turns-on p q) x (on a b) = refl
   says command (turns-off p q) x (on a b) = absurd (omega arith)
@@ -31,7 +31,7 @@ module _ (lamp : Lamp) (s : List ℕ) (link : Link) where
   abbrev pub Fits : LampGroup → Type 0
   Fits x = GroupJudged (GroupDimmer lamp s link) x.lamp x.is_listed
 
-  pub judged : (command : GroupCommand) → Commanded (command1Of s) command → Fits (group_of lamp command link)
+  pub judged : (command : GroupCommand) → Commanded (command1_of s) command → Fits (group_of lamp command link)
   judged command (turns-on p q) = is_row (on p q)
   judged command (turns-off p q) = is_row (off p q)
   judged command (neither none) = no_row refl

@@ -11,37 +11,37 @@ use Rattle.wire.specs.declared.request.Request.{Request}
 use Rattle.wire.specs.declared.command.Standard.{Standard}
 use Rattle.wire.specs.declared.command.Extended.{Extended}
 use Rattle.wire.specs.declared.command.Command.{Command}
-use Rattle.wire.specs.Bytes.{dataIn}
+use Rattle.wire.specs.Bytes.{data_in}
 use Rattle.load.specs.declared.entry.Entry.{Entry}
 use Rattle.load.specs.Alike.{same, shown}
 use Rattle.load.specs.declared.state.Lamp.{Lamp}
 use Rattle.dimmer.specs.declared.lamp.LampEntry.{LampEntry}
 use Rattle.dimmer.specs.Lamp.{stays}
-use Rattle.dimmer.specs.Load.{statuses, statusEntry, percentEntry, loadRows, loadEntry}
-use Rattle.dimmer.specs.Properties.{rampEntry, propertyEntry, propertiesEntry}
+use Rattle.dimmer.specs.Load.{statuses, status_entry, percent_entry, load_rows, load_entry}
+use Rattle.dimmer.specs.Properties.{ramp_entry, property_entry, properties_entry}
 use Rattle.dimmer.specs.Table.{entry_of}
-use Rattle.dimmer.specs.Rates.{withRates, LampsAlike}
+use Rattle.dimmer.specs.Rates.{with_rates, LampsAlike}
 
-module _ (ramp onLevel : ℕ) (lamp : Lamp) where
+module _ (ramp on_level : ℕ) (lamp : Lamp) where
   abbrev other : Lamp
-  other = withRates ramp onLevel lamp
+  other = with_rates ramp on_level lamp
 
   -- an answer with those rates in its lamp
   abbrev rated : LampEntry → LampEntry
-  rated x = record { lamp = withRates ramp onLevel x.lamp; entry = x.entry }
+  rated x = record { lamp = with_rates ramp on_level x.lamp; entry = x.entry }
 
-  status-rated : (command2 : ℕ) → statusEntry other command2 ≡ rated (statusEntry lamp command2)
-  unfolding statusEntry
-  status-rated command2 = altered-rows rated command2 (stays lamp Entry.Unlisted) (statuses lamp)
+  status_rated : (command2 : ℕ) → status_entry other command2 ≡ rated (status_entry lamp command2)
+  unfolding status_entry
+  status_rated command2 = altered-rows rated command2 (stays lamp Entry.Unlisted) (statuses lamp)
 
-  percent-rated : (command2 : ℕ) → percentEntry other command2 ≡ rated (percentEntry lamp command2)
-  unfolding percentEntry
-  percent-rated command2 = beside (λ (x y : LampEntry). x ≡ rated y) (leb command2 0x64) refl refl
+  percent_rated : (command2 : ℕ) → percent_entry other command2 ≡ rated (percent_entry lamp command2)
+  unfolding percent_entry
+  percent_rated command2 = beside (λ (x y : LampEntry). x ≡ rated y) (leb command2 0x64) refl refl
 
   -- a command to the lamp gives the same to both, each with its own rates
-  load-rated : (r : Request) → loadEntry other r ≡ rated (loadEntry lamp r)
-  unfolding loadEntry
-  load-rated r = rw (status-rated r.command2, percent-rated r.command2) (altered-rows rated r.command1 (stays lamp Entry.Unlisted) (loadRows lamp r.command2))
+  load_rated : (r : Request) → load_entry other r ≡ rated (load_entry lamp r)
+  unfolding load_entry
+  load_rated r = rw (status_rated r.command2, percent_rated r.command2) (altered-rows rated r.command1 (stays lamp Entry.Unlisted) (load_rows lamp r.command2))
 
   lit : (x y : Lamp) → x.level ≡ y.level → LampsAlike (record { lamp = x; entry = Entry.Done }) (record { lamp = y; entry = Entry.Done })
   lit x y e = record { level = e; entry = same Entry.Done }
@@ -49,23 +49,23 @@ module _ (ramp onLevel : ℕ) (lamp : Lamp) where
   both : (entry : Entry) → LampsAlike (stays lamp entry) (stays other entry)
   both entry = record { level = refl; entry = same entry }
 
-  rated-alike : (x y : LampEntry) → y ≡ rated x → LampsAlike x y
-  rated-alike x y e = rw e (record { level = refl; entry = same x.entry })
+  rated_alike : (x y : LampEntry) → y ≡ rated x → LampsAlike x y
+  rated_alike x y e = rw e (record { level = refl; entry = same x.entry })
 
-  properties-alike : (r : Request) (d : List ℕ) → LampsAlike (propertiesEntry lamp r d) (propertiesEntry other r d)
-  unfolding rampEntry propertyEntry propertiesEntry
-  properties-alike r d =
+  properties_alike : (r : Request) (d : List ℕ) → LampsAlike (properties_entry lamp r d) (properties_entry other r d)
+  unfolding ramp_entry property_entry properties_entry
+  properties_alike r d =
       beside LampsAlike (eqb r.command2 0x00)
-      (beside LampsAlike (eqb (dataIn d 2) 0x00) (record { level = refl; entry = shown _ _ })
-      (beside LampsAlike (eqb (dataIn d 2) 0x05) (beside LampsAlike (leb (dataIn d 3) 0x1f) (lit _ _ refl) (both Entry.Unlisted))
-      (beside LampsAlike (eqb (dataIn d 2) 0x06) (lit _ _ refl) (both Entry.Shared))))
+      (beside LampsAlike (eqb (data_in d 2) 0x00) (record { level = refl; entry = shown _ _ })
+      (beside LampsAlike (eqb (data_in d 2) 0x05) (beside LampsAlike (leb (data_in d 3) 0x1f) (lit _ _ refl) (both Entry.Unlisted))
+      (beside LampsAlike (eqb (data_in d 2) 0x06) (lit _ _ refl) (both Entry.Shared))))
       (both Entry.Shared)
 
-  pub rates-alike : (r : Request) (d : List ℕ) (command : Command) → LampsAlike (entry_of lamp r d command) (entry_of other r d command)
-  rates-alike r d (Command.Standard (Standard.Open command)) = both Entry.Shared
-  rates-alike r d (Command.Standard (Standard.Module command)) = both Entry.Shared
-  rates-alike r d (Command.Standard Standard.Load) = rated-alike _ _ (load-rated r)
-  rates-alike r d (Command.Extended Extended.SetFlags) = both Entry.Shared
-  rates-alike r d (Command.Extended Extended.Properties) = properties-alike r d
-  rates-alike r d (Command.Extended Extended.Database) = both Entry.Shared
-  rates-alike r d (Command.Extended Extended.Load) = both Entry.Unlisted
+  pub rates_alike : (r : Request) (d : List ℕ) (command : Command) → LampsAlike (entry_of lamp r d command) (entry_of other r d command)
+  rates_alike r d (Command.Standard (Standard.Open command)) = both Entry.Shared
+  rates_alike r d (Command.Standard (Standard.Module command)) = both Entry.Shared
+  rates_alike r d (Command.Standard Standard.Load) = rated_alike _ _ (load_rated r)
+  rates_alike r d (Command.Extended Extended.SetFlags) = both Entry.Shared
+  rates_alike r d (Command.Extended Extended.Properties) = properties_alike r d
+  rates_alike r d (Command.Extended Extended.Database) = both Entry.Shared
+  rates_alike r d (Command.Extended Extended.Load) = both Entry.Unlisted

@@ -5,14 +5,14 @@ use Rattle.load.specs.declared.state.Lamp.{Lamp}
 use Rattle.dimmer.specs.declared.lamp.LampEntry.{LampEntry}
 
 -- a lamp with one value set
-abbrev pub withLevel : ℕ → Lamp → Lamp
-withLevel x lamp = record { level = x; ramp = lamp.ramp; on_level = lamp.on_level }
+abbrev pub with_level : ℕ → Lamp → Lamp
+with_level x lamp = record { level = x; ramp = lamp.ramp; on_level = lamp.on_level }
 
-abbrev pub withRamp : ℕ → Lamp → Lamp
-withRamp x lamp = record { level = lamp.level; ramp = x; on_level = lamp.on_level }
+abbrev pub with_ramp : ℕ → Lamp → Lamp
+with_ramp x lamp = record { level = lamp.level; ramp = x; on_level = lamp.on_level }
 
-abbrev pub withOnLevel : ℕ → Lamp → Lamp
-withOnLevel x lamp = record { level = lamp.level; ramp = lamp.ramp; on_level = x }
+abbrev pub with_on_level : ℕ → Lamp → Lamp
+with_on_level x lamp = record { level = lamp.level; ramp = lamp.ramp; on_level = x }
 
 -- carried out: the lamp is this one then
 abbrev pub becomes : Lamp → LampEntry

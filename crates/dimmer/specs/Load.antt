@@ -6,7 +6,7 @@ use Rattle.wire.specs.declared.request.Request.{Request}
 use Rattle.load.specs.declared.entry.Entry.{Entry}
 use Rattle.load.specs.declared.state.Lamp.{Lamp}
 use Rattle.dimmer.specs.declared.lamp.LampEntry.{LampEntry}
-use Rattle.dimmer.specs.Lamp.{withLevel, becomes, stays}
+use Rattle.dimmer.specs.Lamp.{with_level, becomes, stays}
 
 -- level plus 8, at most FF; level minus 8, at least 00
 abbrev pub raised : ℕ → ℕ
@@ -16,49 +16,49 @@ abbrev pub lowered : ℕ → ℕ
 lowered level = level - 8
 
 -- the high digit followed by the digit F
-abbrev pub highThenF : ℕ → ℕ
-highThenF command2 = command2 / 16 * 16 + 15
+abbrev pub high_then_f : ℕ → ℕ
+high_then_f command2 = command2 / 16 * 16 + 15
 
 -- a level as per cent, and per cent as a level
-abbrev pub percentOf : ℕ → ℕ
-percentOf level = (100 * level + 127) / 255
+abbrev pub percent_of : ℕ → ℕ
+percent_of level = (100 * level + 127) / 255
 
-abbrev pub levelOf : ℕ → ℕ
-levelOf p = (255 * p + 50) / 100
+abbrev pub level_of : ℕ → ℕ
+level_of p = (255 * p + 50) / 100
 
 -- the lamp takes a level
-abbrev pub atLevel : Lamp → ℕ → LampEntry
-atLevel lamp level = becomes (withLevel level lamp)
+abbrev pub at_level : Lamp → ℕ → LampEntry
+at_level lamp level = becomes (with_level level lamp)
 
 -- 19: Command 2 says what is shown, after the delta
 abbrev pub statuses : Lamp → List (Row LampEntry)
 statuses lamp =
     0x00 ⇒ stays lamp (Entry.Shows lamp.level) ∷
-    0x06 ⇒ stays lamp (Entry.Shows (percentOf lamp.level)) ∷
+    0x06 ⇒ stays lamp (Entry.Shows (percent_of lamp.level)) ∷
     []
 
-unfoldable pub statusEntry : Lamp → ℕ → LampEntry
-statusEntry lamp command2 = among command2 (stays lamp Entry.Unlisted) (statuses lamp)
+unfoldable pub status_entry : Lamp → ℕ → LampEntry
+status_entry lamp command2 = among command2 (stays lamp Entry.Unlisted) (statuses lamp)
 
 -- 39: Command 2 in 00 to 64
-unfoldable pub percentEntry : Lamp → ℕ → LampEntry
-percentEntry lamp command2 = choose (leb command2 0x64) (atLevel lamp (levelOf command2)) (stays lamp Entry.Unlisted)
+unfoldable pub percent_entry : Lamp → ℕ → LampEntry
+percent_entry lamp command2 = choose (leb command2 0x64) (at_level lamp (level_of command2)) (stays lamp Entry.Unlisted)
 
 -- Command 1 decides, then Command 2 where the row says so
-abbrev pub loadRows : Lamp → ℕ → List (Row LampEntry)
-loadRows lamp command2 =
-    0x11 ⇒ atLevel lamp command2 ∷
-    0x12 ⇒ atLevel lamp command2 ∷
-    0x21 ⇒ atLevel lamp command2 ∷
-    0x13 ⇒ atLevel lamp 0x00 ∷
-    0x14 ⇒ atLevel lamp 0x00 ∷
-    0x15 ⇒ atLevel lamp (raised lamp.level) ∷
-    0x16 ⇒ atLevel lamp (lowered lamp.level) ∷
-    0x19 ⇒ statusEntry lamp command2 ∷
-    0x2e ⇒ atLevel lamp (highThenF command2) ∷
-    0x2f ⇒ atLevel lamp 0x00 ∷
-    0x39 ⇒ percentEntry lamp command2 ∷
+abbrev pub load_rows : Lamp → ℕ → List (Row LampEntry)
+load_rows lamp command2 =
+    0x11 ⇒ at_level lamp command2 ∷
+    0x12 ⇒ at_level lamp command2 ∷
+    0x21 ⇒ at_level lamp command2 ∷
+    0x13 ⇒ at_level lamp 0x00 ∷
+    0x14 ⇒ at_level lamp 0x00 ∷
+    0x15 ⇒ at_level lamp (raised lamp.level) ∷
+    0x16 ⇒ at_level lamp (lowered lamp.level) ∷
+    0x19 ⇒ status_entry lamp command2 ∷
+    0x2e ⇒ at_level lamp (high_then_f command2) ∷
+    0x2f ⇒ at_level lamp 0x00 ∷
+    0x39 ⇒ percent_entry lamp command2 ∷
     []
 
-unfoldable pub loadEntry : Lamp → Request → LampEntry
-loadEntry lamp r = among r.command1 (stays lamp Entry.Unlisted) (loadRows lamp r.command2)
+unfoldable pub load_entry : Lamp → Request → LampEntry
+load_entry lamp r = among r.command1 (stays lamp Entry.Unlisted) (load_rows lamp r.command2)

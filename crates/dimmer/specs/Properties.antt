@@ -3,28 +3,28 @@ use Rattle.std.specs.Prelude.{ℕ, List, [], ◌∷◌, eqb, leb}
 use Rattle.basis.specs.Choice.{choose}
 use Rattle.basis.specs.Table.{Row, among, ◌⇒◌}
 use Rattle.wire.specs.declared.request.Request.{Request}
-use Rattle.wire.specs.Bytes.{dataIn}
+use Rattle.wire.specs.Bytes.{data_in}
 use Rattle.load.specs.declared.entry.Entry.{Entry}
 use Rattle.load.specs.declared.state.Lamp.{Lamp}
 use Rattle.dimmer.specs.declared.lamp.LampEntry.{LampEntry}
-use Rattle.dimmer.specs.Lamp.{withRamp, withOnLevel, becomes, stays}
+use Rattle.dimmer.specs.Lamp.{with_ramp, with_on_level, becomes, stays}
 
 -- ramp 00 to 1F
-unfoldable pub rampEntry : Lamp → ℕ → LampEntry
-rampEntry lamp ramp = choose (leb ramp 0x1f) (becomes (withRamp ramp lamp)) (stays lamp Entry.Unlisted)
+unfoldable pub ramp_entry : Lamp → ℕ → LampEntry
+ramp_entry lamp ramp = choose (leb ramp 0x1f) (becomes (with_ramp ramp lamp)) (stays lamp Entry.Unlisted)
 
 -- 2E: Data 2 says what is asked for; 00 is Get Properties
-abbrev pub propertyRows : Lamp → List ℕ → List (Row LampEntry)
-propertyRows lamp d =
+abbrev pub property_rows : Lamp → List ℕ → List (Row LampEntry)
+property_rows lamp d =
     0x00 ⇒ stays lamp (Entry.Shown (record { ramp = lamp.ramp; on_level = lamp.on_level })) ∷
-    0x05 ⇒ rampEntry lamp (dataIn d 3) ∷
-    0x06 ⇒ becomes (withOnLevel (dataIn d 3) lamp) ∷
+    0x05 ⇒ ramp_entry lamp (data_in d 3) ∷
+    0x06 ⇒ becomes (with_on_level (data_in d 3) lamp) ∷
     []
 
 -- what else there is, every kind has
-unfoldable pub propertyEntry : Lamp → List ℕ → LampEntry
-propertyEntry lamp d = among (dataIn d 2) (stays lamp Entry.Shared) (propertyRows lamp d)
+unfoldable pub property_entry : Lamp → List ℕ → LampEntry
+property_entry lamp d = among (data_in d 2) (stays lamp Entry.Shared) (property_rows lamp d)
 
 -- it needs Command 2 = 00
-unfoldable pub propertiesEntry : Lamp → Request → List ℕ → LampEntry
-propertiesEntry lamp r d = choose (eqb r.command2 0x00) (propertyEntry lamp d) (stays lamp Entry.Shared)
+unfoldable pub properties_entry : Lamp → Request → List ℕ → LampEntry
+properties_entry lamp r d = choose (eqb r.command2 0x00) (property_entry lamp d) (stays lamp Entry.Shared)

@@ -3,11 +3,11 @@ use Rattle.std.specs.Prelude.{ℕ, ◌≡◌}
 use Rattle.load.specs.Alike.{Alike}
 use Rattle.load.specs.declared.state.Lamp.{Lamp}
 use Rattle.dimmer.specs.declared.lamp.LampEntry.{LampEntry}
-use Rattle.dimmer.specs.Lamp.{withRamp, withOnLevel}
+use Rattle.dimmer.specs.Lamp.{with_ramp, with_on_level}
 
 -- a lamp with another ramp rate and on level
-abbrev pub withRates : ℕ → ℕ → Lamp → Lamp
-withRates ramp onLevel lamp = withRamp ramp (withOnLevel onLevel lamp)
+abbrev pub with_rates : ℕ → ℕ → Lamp → Lamp
+with_rates ramp on_level lamp = with_ramp ramp (with_on_level on_level lamp)
 
 -- answers that leave one level, and differ by what Get Properties shows alone
 pub record LampsAlike (x y : LampEntry) : Type 0 where

@@ -1,6 +1,6 @@
 // What a standard command does to a dimmer's lamp ("Direct commands, standard").
 ghost use Rattle.std.specs.Prelude.{◌≡◌};
-ghost use Rattle.dimmer.specs.Load.{atLevel, statusEntry, percentEntry, loadEntry};
+ghost use Rattle.dimmer.specs.Load.{at_level, status_entry, percent_entry, load_entry};
 
 use crate::lamp::{LampEntry, becomes, stays};
 use crate::levels::{high_then_f, level_of, lowered, percent_of, raised};
@@ -9,7 +9,7 @@ use load::state::Lamp;
 use wire::request::Request;
 
 pub(crate) fn load_entry(lamp: Lamp, r: Request) -> LampEntry
-    ensures { result ≡ loadEntry lamp r }
+    ensures { result ≡ load_entry lamp r }
 {
     let command1 = r.command1;
     match command1 {
@@ -30,7 +30,7 @@ pub(crate) fn load_entry(lamp: Lamp, r: Request) -> LampEntry
 
 // The lamp takes a level.
 fn at_level(lamp: Lamp, level: u8) -> LampEntry
-    ensures { result ≡ atLevel lamp level }
+    ensures { result ≡ at_level lamp level }
 {
     becomes(Lamp {
         level: level,
@@ -40,7 +40,7 @@ fn at_level(lamp: Lamp, level: u8) -> LampEntry
 
 // 19: Command 2 says what is shown.
 fn status_entry(lamp: Lamp, command2: u8) -> LampEntry
-    ensures { result ≡ statusEntry lamp command2 }
+    ensures { result ≡ status_entry lamp command2 }
 {
     match command2 {
         0x00 => stays(lamp, Entry::Shows(lamp.level)),
@@ -51,7 +51,7 @@ fn status_entry(lamp: Lamp, command2: u8) -> LampEntry
 
 // 39: Command 2 is per cent.
 fn percent_entry(lamp: Lamp, command2: u8) -> LampEntry
-    ensures { result ≡ percentEntry lamp command2 }
+    ensures { result ≡ percent_entry lamp command2 }
 {
     match command2 {
         0x00..=0x64 => at_level(lamp, level_of(command2)),

@@ -1,6 +1,6 @@
 // Levels, and per cent of them ("Direct commands, standard").
 ghost use Rattle.std.specs.Prelude.{◌≡◌, ◌≤◌};
-ghost use Rattle.dimmer.specs.Load.{raised, lowered, highThenF, percentOf, levelOf};
+ghost use Rattle.dimmer.specs.Load.{raised, lowered, high_then_f, percent_of, level_of};
 
 // Eight more, at most FF.
 pub(crate) fn raised(level: u8) -> u8
@@ -18,20 +18,20 @@ pub(crate) fn lowered(level: u8) -> u8
 
 // The high digit followed by the digit F.
 pub(crate) fn high_then_f(two: u8) -> u8
-    ensures { result ≡ highThenF two }
+    ensures { result ≡ high_then_f two }
 {
     two / 16 * 16 + 15
 }
 
 pub(crate) fn percent_of(level: u8) -> u8
-    ensures { result ≡ percentOf level }
+    ensures { result ≡ percent_of level }
 {
     ((100 * (level as u32) + 127) / 255) as u8
 }
 
 pub(crate) fn level_of(p: u8) -> u8
     requires { p ≤ 100 }
-    ensures { result ≡ levelOf p }
+    ensures { result ≡ level_of p }
 {
     ((255 * (p as u32) + 50) / 100) as u8
 }

@@ -1,6 +1,6 @@
 // 2E: a dimmer's own properties ("Direct commands, extended").
 ghost use Rattle.std.specs.Prelude.{◌≡◌};
-ghost use Rattle.dimmer.specs.Properties.{rampEntry, propertyEntry, propertiesEntry};
+ghost use Rattle.dimmer.specs.Properties.{ramp_entry, property_entry, properties_entry};
 
 use crate::lamp::{LampEntry, becomes, stays};
 use load::entry::{Entry, Properties};
@@ -9,7 +9,7 @@ use wire::request::Request;
 
 // Command 2 must be 00.
 pub(crate) fn properties_entry(lamp: Lamp, r: Request, data: [u8; 14]) -> LampEntry
-    ensures { result ≡ propertiesEntry lamp r «data» }
+    ensures { result ≡ properties_entry lamp r «data» }
 {
     let command2 = r.command2;
     match command2 {
@@ -20,7 +20,7 @@ pub(crate) fn properties_entry(lamp: Lamp, r: Request, data: [u8; 14]) -> LampEn
 
 // Data 2 says what is asked for, and Data 3 is the new value.
 fn property_entry(lamp: Lamp, data: [u8; 14]) -> LampEntry
-    ensures { result ≡ propertyEntry lamp «data» }
+    ensures { result ≡ property_entry lamp «data» }
 {
     let what = data[1];
     let x = data[2];
@@ -42,7 +42,7 @@ fn property_entry(lamp: Lamp, data: [u8; 14]) -> LampEntry
 }
 
 fn ramp_entry(lamp: Lamp, ramp: u8) -> LampEntry
-    ensures { result ≡ rampEntry lamp ramp }
+    ensures { result ≡ ramp_entry lamp ramp }
 {
     match ramp {
         0x00..=0x1f => becomes(Lamp { ramp: ramp, ..lamp }),

@@ -1,6 +1,6 @@
 // A dimmer's own rows; the others are as every kind has them.
 ghost use Rattle.std.specs.Prelude.{◌≡◌};
-ghost use Rattle.dimmer.specs.Table.{standardEntry, extendedEntry, entry_of};
+ghost use Rattle.dimmer.specs.Table.{standard_entry, extended_entry, entry_of};
 
 use crate::commands::load_entry;
 use crate::lamp::{LampEntry, stays};
@@ -21,7 +21,7 @@ pub fn entry_of(lamp: Lamp, r: Request, data: [u8; 14], command: Command) -> Lam
 }
 
 fn standard_entry(lamp: Lamp, r: Request, command: Standard) -> LampEntry
-    ensures { result ≡ standardEntry lamp r command }
+    ensures { result ≡ standard_entry lamp r command }
 {
     match command {
         Standard::Open(_) => stays(lamp, Entry::Shared),
@@ -31,7 +31,7 @@ fn standard_entry(lamp: Lamp, r: Request, command: Standard) -> LampEntry
 }
 
 fn extended_entry(lamp: Lamp, r: Request, data: [u8; 14], command: Extended) -> LampEntry
-    ensures { result ≡ extendedEntry lamp r «data» command }
+    ensures { result ≡ extended_entry lamp r «data» command }
 {
     match command {
         Extended::SetFlags => stays(lamp, Entry::Shared),

@@ -1,6 +1,6 @@
 // One message to the module that an image holds.
 ghost use Rattle.image.specs.Returned.{Returns};
-ghost use Rattle.embed.specs.Call.{returnedOf};
+ghost use Rattle.embed.specs.Call.{returned_of};
 
 use device::step::step;
 use image::held::held_in;
@@ -19,7 +19,7 @@ pub extern "C" fn dreelish_step(
     room: &mut [u8],
     report: &mut [u64],
 ) -> u64
-    ensures { Returns (returnedOf image.old links.old message.now room.old report.old)
+    ensures { Returns (returned_of image.old links.old message.now room.old report.old)
         result image.new links.new room.new report.new }
 {
     let held = held_in(image);

@@ -13,43 +13,43 @@ use borrow.Rule.Slice.PartMut.{mid_of}
 use Rattle.basis.proofs.Tests.{both}
 use Rattle.class.proofs.Shared.{between}
 use Rattle.image.specs.Places.{LENGTH}
-use Rattle.image.specs.Image.{isImage}
-use Rattle.embed_class.specs.Row.{imageIn, areImages, isRow, row_of}
+use Rattle.image.specs.Image.{is_image}
+use Rattle.embed_class.specs.Row.{image_in, are_images, is_row, row_of}
 
 -- what a row is
-pub row-length : (k : ℕ) (s : List ℕ) → isRow k s ≡ true → length s ≡ k * LENGTH
-unfolding isRow
-row-length k s h = eqb-true (length s) (k * LENGTH) (both (eqb (length s) (k * LENGTH)) (areImages k s) h).0
+pub row_length : (k : ℕ) (s : List ℕ) → is_row k s ≡ true → length s ≡ k * LENGTH
+unfolding is_row
+row_length k s h = eqb-true (length s) (k * LENGTH) (both (eqb (length s) (k * LENGTH)) (are_images k s) h).0
 
-pub row-images : (k : ℕ) (s : List ℕ) → isRow k s ≡ true → areImages k s ≡ true
-unfolding isRow
-row-images k s h = (both (eqb (length s) (k * LENGTH)) (areImages k s) h).1
+pub row_images : (k : ℕ) (s : List ℕ) → is_row k s ≡ true → are_images k s ≡ true
+unfolding is_row
+row_images k s h = (both (eqb (length s) (k * LENGTH)) (are_images k s) h).1
 
-pub no_row : (k : ℕ) (s : List ℕ) → (length s ≡ k * LENGTH → ⊥) → isRow k s ≡ false
-unfolding isRow
+pub no_row : (k : ℕ) (s : List ℕ) → (length s ≡ k * LENGTH → ⊥) → is_row k s ≡ false
+unfolding is_row
 no_row k s other = rw (ne_eqb (length s) (k * LENGTH) other)
 
-pub row-by-images : (k : ℕ) (s : List ℕ) → length s ≡ k * LENGTH → isRow k s ≡ areImages k s
-unfolding isRow
-row-by-images k s n = rw (eq-eqb (length s) (k * LENGTH) n)
+pub row_by_images : (k : ℕ) (s : List ℕ) → length s ≡ k * LENGTH → is_row k s ≡ are_images k s
+unfolding is_row
+row_by_images k s n = rw (eq-eqb (length s) (k * LENGTH) n)
 
 -- image by image
-pub images-next : (k : ℕ) (s : List ℕ) → 0 < k → isImage (take LENGTH s) ≡ true → areImages k s ≡ areImages (k - 1) (drop LENGTH s)
-unfolding areImages
-images-next zero s h one = absurd (not-suc-le-zero h)
-images-next (suc k) s h one = let e : suc k - 1 ≡ k = omega arith in rw (one, e)
+pub images_next : (k : ℕ) (s : List ℕ) → 0 < k → is_image (take LENGTH s) ≡ true → are_images k s ≡ are_images (k - 1) (drop LENGTH s)
+unfolding are_images
+images_next zero s h one = absurd (not-suc-le-zero h)
+images_next (suc k) s h one = let e : suc k - 1 ≡ k = omega arith in rw (one, e)
 
-pub images-end : (k : ℕ) (s : List ℕ) → 0 < k → isImage (take LENGTH s) ≡ false → areImages k s ≡ false
-unfolding areImages
-images-end zero s h none = absurd (not-suc-le-zero h)
-images-end (suc k) s h none = rw none
+pub images_end : (k : ℕ) (s : List ℕ) → 0 < k → is_image (take LENGTH s) ≡ false → are_images k s ≡ false
+unfolding are_images
+images_end zero s h none = absurd (not-suc-le-zero h)
+images_end (suc k) s h none = rw none
 
-pub no_more : (k : ℕ) (s : List ℕ) → k ≡ 0 → areImages k s ≡ true
-unfolding areImages
+pub no_more : (k : ℕ) (s : List ℕ) → k ≡ 0 → are_images k s ≡ true
+unfolding are_images
 no_more k s e = rw e
 
 -- what is lent of the bytes for seat k is image k
-pub lent : (k : ℕ) (s : List ℕ) → mid_of (k * LENGTH) (k * LENGTH + LENGTH - k * LENGTH) s ≡ imageIn k s
+pub lent : (k : ℕ) (s : List ℕ) → mid_of (k * LENGTH) (k * LENGTH + LENGTH - k * LENGTH) s ≡ image_in k s
 lent k s = ap (λ (n : ℕ). mid_of (k * LENGTH) n s) (between (k * LENGTH) LENGTH)
 
 -- and behind it the next one begins
@@ -65,13 +65,13 @@ row_count zero s = refl
 row_count (suc k) s = ap suc (row_count k _)
 
 -- the first image is one, and behind it the others are
-pub first-image : (k : ℕ) (s : List ℕ) → areImages (suc k) s ≡ true → isImage (take LENGTH s) ≡ true
-unfolding areImages
-first-image k s h = (both (isImage (take LENGTH s)) (areImages k (drop LENGTH s)) h).0
+pub first_image : (k : ℕ) (s : List ℕ) → are_images (suc k) s ≡ true → is_image (take LENGTH s) ≡ true
+unfolding are_images
+first_image k s h = (both (is_image (take LENGTH s)) (are_images k (drop LENGTH s)) h).0
 
-pub later-images : (k : ℕ) (s : List ℕ) → areImages (suc k) s ≡ true → areImages k (drop LENGTH s) ≡ true
-unfolding areImages
-later-images k s h = (both (isImage (take LENGTH s)) (areImages k (drop LENGTH s)) h).1
+pub later_images : (k : ℕ) (s : List ℕ) → are_images (suc k) s ≡ true → are_images k (drop LENGTH s) ≡ true
+unfolding are_images
+later_images k s h = (both (is_image (take LENGTH s)) (are_images k (drop LENGTH s)) h).1
 
 -- image k + 1 is image k of what stands behind the first
 pub past_first : (k : ℕ) (s : List ℕ) → drop (suc k * LENGTH) s ≡ drop (k * LENGTH) (drop LENGTH s)

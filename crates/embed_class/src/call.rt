@@ -1,6 +1,6 @@
 // One message to the class whose modules the images hold.
 ghost use Rattle.image.specs.Returned.{Returns};
-ghost use Rattle.embed_class.specs.ClassCall.{classReturnedOf};
+ghost use Rattle.embed_class.specs.ClassCall.{class_returned_of};
 
 use crate::serve::serve_row;
 use crate::strip::is_row;
@@ -19,7 +19,7 @@ pub extern "C" fn dreelish_class_step(
     room: &mut [u8],
     report: &mut [u64],
 ) -> u64
-    ensures { Returns (classReturnedOf images.old count links.old message.now room.old report.old)
+    ensures { Returns (class_returned_of images.old count links.old message.now room.old report.old)
         result images.new links.new room.new report.new }
 {
     if !is_row(images, count) {

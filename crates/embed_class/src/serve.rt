@@ -2,8 +2,8 @@
 ghost use Rattle.std.specs.Prelude.{◌≡◌, true, ◌+◌, ◌*◌, ◌≤◌, length};
 ghost use Rattle.class.specs.Class.{class_of};
 ghost use Rattle.image.specs.Places.{LENGTH};
-ghost use Rattle.embed_class.specs.Row.{isRow, row_of};
-ghost use Rattle.embed_class.specs.Serve.{isForAll, joinedBy, withSeat, SeatComes, RowComes};
+ghost use Rattle.embed_class.specs.Row.{is_row, row_of};
+ghost use Rattle.embed_class.specs.Serve.{is_for_all, joined_by, with_seat, SeatComes, RowComes};
 
 use crate::strip::names_of;
 use device::step::serve;
@@ -24,7 +24,7 @@ pub(crate) fn serve_row(
     message: &[u8],
     room: &mut [u8],
 ) -> ClassAnswer
-    requires images_value { isRow count images.old ≡ true }
+    requires images_value { is_row count images.old ≡ true }
     requires count_bound { count ≤ 16 }
     ensures { RowComes images.old
         (class_of (row_of count images.old) links.old message.now room.old)
@@ -51,7 +51,7 @@ pub(crate) fn serve_row(
 }
 
 fn is_for_all(round: Round) -> bool
-    ensures { result ≡ isForAll round }
+    ensures { result ≡ is_for_all round }
 {
     match round {
         Round::Note => false,
@@ -63,7 +63,7 @@ fn is_for_all(round: Round) -> bool
 // A broadcast is carried out where any seat acted, and the records read are those of all.
 fn with_seat(before: ClassAnswer, own: ClassAnswer) -> ClassAnswer
     requires { (before.read ≤ 4096) × (own.read ≤ 256) }
-    ensures { result ≡ withSeat before own }
+    ensures { result ≡ with_seat before own }
 {
     let so_far = before.outcome;
     let outcome = own.outcome;
@@ -76,7 +76,7 @@ fn with_seat(before: ClassAnswer, own: ClassAnswer) -> ClassAnswer
 }
 
 fn joined(so_far: ClassOutcome, outcome: ClassOutcome) -> ClassOutcome
-    ensures { result ≡ joinedBy so_far outcome }
+    ensures { result ≡ joined_by so_far outcome }
 {
     if class_number(outcome) == 0 {
         return ClassOutcome::Single(Outcome::Done);

@@ -1,7 +1,7 @@
 // A row of modules held as bytes: their images, each directly behind the one before it.
 ghost use Rattle.std.specs.Prelude.{◌≡◌, ◌*◌, ◌≤◌, length, take};
 ghost use Rattle.image.specs.Places.{LENGTH};
-ghost use Rattle.embed_class.specs.Row.{isRow, row_of, names_of};
+ghost use Rattle.embed_class.specs.Row.{is_row, row_of, names_of};
 
 use image::held::is_image;
 use image::places::{HIGH, LENGTH, LOW, MIDDLE};
@@ -9,7 +9,7 @@ use wire::address::Address;
 
 // Whether these bytes are so many images, and nothing else.
 pub(crate) fn is_row(images: &[u8], count: usize) -> bool
-    ensures { result ≡ isRow count images.now }
+    ensures { result ≡ is_row count images.now }
 {
     if images.len() % LENGTH != 0 {
         return false;

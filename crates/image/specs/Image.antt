@@ -4,33 +4,33 @@ use Rattle.basis.specs.Choice.{choose}
 use Rattle.basis.specs.Table.{Row, among, ◌⇒◌}
 use Rattle.load.specs.declared.state.Load.{Load}
 use Rattle.module.specs.declared.state.Module.{Module}
-use Rattle.module.specs.Module.{kind_of, freshOutlet}
+use Rattle.module.specs.Module.{kind_of, fresh_outlet}
 use Rattle.image.specs.declared.held.Held.{Held}
 use Rattle.image.specs.Places.{LENGTH, KIND, HIGH, MIDDLE, LOW, CATEGORY, SUBCATEGORY, FIRMWARE, REVISION}
 use Rattle.image.specs.Places.{FLAGS, LED, HOUSE, UNIT, DELTA, LEVEL, RAMP, ON_LEVEL, TOP, BOTTOM}
 
 -- a socket's byte: 00 off, 01 on, and no other
-abbrev pub isSocket : ℕ → Bool
-isSocket x = leb x 0x01
+abbrev pub is_socket : ℕ → Bool
+is_socket x = leb x 0x01
 
 -- the kinds that there are, 01 a dimmer and 02 an outlet, and whether the bytes of the load can be that kind's
 abbrev pub kinds : List ℕ → List (Row Bool)
-kinds s = 0x01 ⇒ true ∷ 0x02 ⇒ (isSocket (get_or s TOP 0) && isSocket (get_or s BOTTOM 0)) ∷ []
+kinds s = 0x01 ⇒ true ∷ 0x02 ⇒ (is_socket (get_or s TOP 0) && is_socket (get_or s BOTTOM 0)) ∷ []
 
 -- of the one length, and of one of these kinds
-unfoldable pub isImage : List ℕ → Bool
-isImage s = eqb (length s) LENGTH && among (get_or s KIND 0) false (kinds s)
+unfoldable pub is_image : List ℕ → Bool
+is_image s = eqb (length s) LENGTH && among (get_or s KIND 0) false (kinds s)
 
 -- ---- what an image holds
 
-abbrev pub isOn : ℕ → Bool
-isOn x = eqb x 0x01
+abbrev pub is_on : ℕ → Bool
+is_on x = eqb x 0x01
 
 -- an outlet's load where the kind is 02, and else a dimmer's, as there is no third
 unfoldable pub load_of : List ℕ → Load
 load_of s =
     choose (eqb (get_or s KIND 0) 0x02)
-    (Load.Outlet (record { top = isOn (get_or s TOP 0); bottom = isOn (get_or s BOTTOM 0) }))
+    (Load.Outlet (record { top = is_on (get_or s TOP 0); bottom = is_on (get_or s BOTTOM 0) }))
     (Load.Dimmer (record { level = get_or s LEVEL 0; ramp = get_or s RAMP 0; on_level = get_or s ON_LEVEL 0 }))
 
 abbrev pub module_of : List ℕ → Module
@@ -54,33 +54,33 @@ module_of s =
 -- who is held where there is no image
 abbrev pub nobody : Module
 nobody =
-    freshOutlet (record { address = record { high = 0; middle = 0; low = 0 }; category = 0; subcategory = 0; firmware = 0; revision = 0 })
+    fresh_outlet (record { address = record { high = 0; middle = 0; low = 0 }; category = 0; subcategory = 0; firmware = 0; revision = 0 })
 
-unfoldable pub heldIn : List ℕ → Held
-heldIn s = record { is_one = isImage s; «module» = choose (isImage s) (module_of s) nobody }
+unfoldable pub held_in : List ℕ → Held
+held_in s = record { is_one = is_image s; «module» = choose (is_image s) (module_of s) nobody }
 
 -- ---- what is stored in it
 
 unfoldable pub byte_of : Bool → ℕ
 byte_of on = choose on 0x01 0x00
 
-abbrev pub loadValues : Load → List (Row ℕ)
-loadValues (Load.Dimmer lamp) = LEVEL ⇒ lamp.level ∷ RAMP ⇒ lamp.ramp ∷ ON_LEVEL ⇒ lamp.on_level ∷ []
-loadValues (Load.Outlet sockets) = TOP ⇒ byte_of sockets.top ∷ BOTTOM ⇒ byte_of sockets.bottom ∷ []
+abbrev pub load_values : Load → List (Row ℕ)
+load_values (Load.Dimmer lamp) = LEVEL ⇒ lamp.level ∷ RAMP ⇒ lamp.ramp ∷ ON_LEVEL ⇒ lamp.on_level ∷ []
+load_values (Load.Outlet sockets) = TOP ⇒ byte_of sockets.top ∷ BOTTOM ⇒ byte_of sockets.bottom ∷ []
 
 -- what a message may alter, each beside its place
 abbrev pub values : Module → List (Row ℕ)
-values m = FLAGS ⇒ m.flags ∷ LED ⇒ m.led ∷ HOUSE ⇒ m.house ∷ UNIT ⇒ m.unit ∷ DELTA ⇒ m.delta ∷ loadValues m.load
+values m = FLAGS ⇒ m.flags ∷ LED ⇒ m.led ∷ HOUSE ⇒ m.house ∷ UNIT ⇒ m.unit ∷ DELTA ⇒ m.delta ∷ load_values m.load
 
 -- values laid into their places, and every other byte kept
-abbrev pub withValues : List (Row ℕ) → List ℕ → List ℕ
-withValues [] s = s
-withValues (r ∷ rows) s = withValues rows (set s r.key r.value)
+abbrev pub with_values : List (Row ℕ) → List ℕ → List ℕ
+with_values [] s = s
+with_values (r ∷ rows) s = with_values rows (set s r.key r.value)
 
 -- an image in which a module was stored: kind and identity are the image's own, and so is what its kind does not use
-abbrev pub storedIn : List ℕ → Module → List ℕ
-storedIn s m = withValues (values m) s
+abbrev pub stored_in : List ℕ → Module → List ℕ
+stored_in s m = with_values (values m) s
 
 -- a module of the image's own kind alone
-unfoldable pub storedIfOwn : List ℕ → Module → List ℕ
-storedIfOwn s m = choose (isImage s && eqb (kind_of m.load) (get_or s KIND 0)) (storedIn s m) s
+unfoldable pub stored_if_own : List ℕ → Module → List ℕ
+stored_if_own s m = choose (is_image s && eqb (kind_of m.load) (get_or s KIND 0)) (stored_in s m) s

@@ -2,7 +2,7 @@
 ghost use Rattle.std.specs.Prelude.{◌≡◌, false, length, get_or};
 ghost use Rattle.basis.specs.Table.{among};
 ghost use Rattle.image.specs.Places.{LENGTH, KIND};
-ghost use Rattle.image.specs.Image.{kinds, isImage, load_of, module_of, nobody, heldIn};
+ghost use Rattle.image.specs.Image.{kinds, is_image, load_of, module_of, nobody, held_in};
 
 use crate::places;
 use load::state::{Lamp, Load, Sockets};
@@ -17,7 +17,7 @@ pub struct Held {
 }
 
 pub fn held_in(image: &[u8]) -> Held
-    ensures { result ≡ heldIn image.now }
+    ensures { result ≡ held_in image.now }
 {
     if !is_image(image) {
         let blank = nobody();
@@ -51,7 +51,7 @@ fn nobody() -> Module
 
 // Whether it has the length of images, is of a kind that there is, and can be that kind's.
 pub fn is_image(image: &[u8]) -> bool
-    ensures { result ≡ isImage image.now }
+    ensures { result ≡ is_image image.now }
 {
     if image.len() != places::LENGTH {
         return false;

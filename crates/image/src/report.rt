@@ -1,10 +1,10 @@
 // What a caller learns beside the result number: the reply's length and the records read.
 ghost use Rattle.std.specs.Prelude.{◌≡◌, [], ◌∷◌};
-ghost use Rattle.basis.specs.Laid.{laidIfFits};
+ghost use Rattle.basis.specs.Laid.{laid_if_fits};
 
 // A report shorter than two numbers is left as it is.
 pub fn tell(report: &mut [u64], sent: usize, read: usize)
-    ensures { report.new ≡ laidIfFits report.old (sent ∷ read ∷ []) }
+    ensures { report.new ≡ laid_if_fits report.old (sent ∷ read ∷ []) }
 {
     if report.len() < 2 {
         return;

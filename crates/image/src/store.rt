@@ -2,7 +2,7 @@
 ghost use Rattle.std.specs.Prelude.{◌≡◌, length};
 ghost use Rattle.module.specs.Module.{kind_of};
 ghost use Rattle.image.specs.Places.{LENGTH};
-ghost use Rattle.image.specs.Image.{byte_of, loadValues, withValues, storedIn, storedIfOwn};
+ghost use Rattle.image.specs.Image.{byte_of, load_values, with_values, stored_in, stored_if_own};
 
 use crate::held::is_image;
 use crate::places;
@@ -11,7 +11,7 @@ use module::state::Module;
 
 // A module of another kind than the image's is not stored.
 pub fn store(image: &mut [u8], m: Module)
-    ensures { image.new ≡ storedIfOwn image.old m }
+    ensures { image.new ≡ stored_if_own image.old m }
 {
     if !is_image(image) {
         return;
@@ -34,7 +34,7 @@ fn kind_of(load: Load) -> u8
 
 fn store_values(image: &mut [u8], m: Module)
     requires { length image.old ≡ LENGTH }
-    ensures { image.new ≡ storedIn image.old m }
+    ensures { image.new ≡ stored_in image.old m }
 {
     image[places::FLAGS] = m.flags;
     image[places::LED] = m.led;
@@ -47,7 +47,7 @@ fn store_values(image: &mut [u8], m: Module)
 
 fn store_load(image: &mut [u8], load: Load)
     requires { length image.old ≡ LENGTH }
-    ensures { image.new ≡ withValues (loadValues load) image.old }
+    ensures { image.new ≡ with_values (load_values load) image.old }
 {
     match load {
         Load::Dimmer(lamp) => store_lamp(image, lamp),
@@ -57,7 +57,7 @@ fn store_load(image: &mut [u8], load: Load)
 
 fn store_lamp(image: &mut [u8], lamp: Lamp)
     requires { length image.old ≡ LENGTH }
-    ensures { image.new ≡ withValues (loadValues (Load.Dimmer lamp)) image.old }
+    ensures { image.new ≡ with_values (load_values (Load.Dimmer lamp)) image.old }
 {
     image[places::LEVEL] = lamp.level;
     image[places::RAMP] = lamp.ramp;
@@ -66,7 +66,7 @@ fn store_lamp(image: &mut [u8], lamp: Lamp)
 
 fn store_sockets(image: &mut [u8], sockets: Sockets)
     requires { length image.old ≡ LENGTH }
-    ensures { image.new ≡ withValues (loadValues (Load.Outlet sockets)) image.old }
+    ensures { image.new ≡ with_values (load_values (Load.Outlet sockets)) image.old }
 {
     image[places::TOP] = byte_of(sockets.top);
     image[places::BOTTOM] = byte_of(sockets.bottom);

@@ -8,20 +8,20 @@ use Rattle.seating.specs.Heed.{blank}
 use Rattle.names.specs.declared.LoadShown.{LoadShown}
 
 -- a seat is shown where a message was for it, or for all
-abbrev pub isFor : Whom → ℕ → Bool
-isFor (Whom.Seat k) i = eqb k i
-isFor Whom.All i = true
-isFor Whom.Nobody i = false
+abbrev pub is_for : Whom → ℕ → Bool
+is_for (Whom.Seat k) i = eqb k i
+is_for Whom.All i = true
+is_for Whom.Nobody i = false
 
-abbrev pub shownOf : Load → LoadShown
-shownOf (Load.Dimmer lamp) = LoadShown.Level lamp.level
-shownOf (Load.Outlet sockets) = LoadShown.Sockets sockets.top sockets.bottom
+abbrev pub shown_of : Load → LoadShown
+shown_of (Load.Dimmer lamp) = LoadShown.Level lamp.level
+shown_of (Load.Outlet sockets) = LoadShown.Sockets sockets.top sockets.bottom
 
-unfoldable pub shownAt : Seating → ℕ → LoadShown
-shownAt s i = choose (ltb i 16) (shownOf (get_or s.row i blank).load) LoadShown.Any
+unfoldable pub shown_at : Seating → ℕ → LoadShown
+shown_at s i = choose (ltb i 16) (shown_of (get_or s.row i blank).load) LoadShown.Any
 
 -- that of the seat it is for; where it is for none of them, or for all, any kind's
-abbrev pub shownFor : Seating → Whom → LoadShown
-shownFor s (Whom.Seat i) = shownAt s i
-shownFor s Whom.All = LoadShown.Any
-shownFor s Whom.Nobody = LoadShown.Any
+abbrev pub shown_for : Seating → Whom → LoadShown
+shown_for s (Whom.Seat i) = shown_at s i
+shown_for s Whom.All = LoadShown.Any
+shown_for s Whom.Nobody = LoadShown.Any

@@ -1,7 +1,7 @@
 // What came of a frame, as the screen has it.
 ghost use Rattle.std.specs.Prelude.{◌≡◌, ◌<◌};
 ghost use Rattle.io.specs.Counts.{IsPrefixLen};
-ghost use Rattle.lines.specs.Shown.{shownOf, shownAt, shownFor, isFor};
+ghost use Rattle.lines.specs.Shown.{shown_of, shown_at, shown_for, is_for};
 
 use basis::min;
 use load::state::Load;
@@ -52,7 +52,7 @@ fn put_seat_if(line: &mut [u8], at: usize, whom: Whom, i: usize, m: Module) -> u
 }
 
 fn is_for(whom: Whom, i: usize) -> bool
-    ensures { result ≡ isFor whom i }
+    ensures { result ≡ is_for whom i }
 {
     match whom {
         Whom::Seat(k) => k == i,
@@ -62,7 +62,7 @@ fn is_for(whom: Whom, i: usize) -> bool
 }
 
 fn shown(h: Heeded) -> Shown
-    ensures* { λ r. ⌜ r ≡ record { result = h.number; read = h.read; load = shownFor h.next h.whom } ⌝ }
+    ensures* { λ r. ⌜ r ≡ record { result = h.number; read = h.read; load = shown_for h.next h.whom } ⌝ }
 {
     let next = h.next;
     let whom = h.whom;
@@ -75,7 +75,7 @@ fn shown(h: Heeded) -> Shown
 
 // The list that names a command is that of the seat that it is for. What is for none of them, or for all, goes by every list.
 fn shown_for(s: Seating, whom: Whom) -> LoadShown
-    ensures { result ≡ shownFor s whom }
+    ensures { result ≡ shown_for s whom }
 {
     match whom {
         Whom::Seat(i) => shown_at(s, i),
@@ -85,7 +85,7 @@ fn shown_for(s: Seating, whom: Whom) -> LoadShown
 }
 
 fn shown_at(s: Seating, i: usize) -> LoadShown
-    ensures { result ≡ shownAt s i }
+    ensures { result ≡ shown_at s i }
 {
     if i < 16 {
         let row = s.row;
@@ -97,7 +97,7 @@ fn shown_at(s: Seating, i: usize) -> LoadShown
 }
 
 fn load_shown(load: Load) -> LoadShown
-    ensures { result ≡ shownOf load }
+    ensures { result ≡ shown_of load }
 {
     match load {
         Load::Dimmer(lamp) => LoadShown::Level(lamp.level),

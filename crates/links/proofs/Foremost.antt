@@ -6,16 +6,16 @@ use mathlib.Core.List.{List, [], ◌∷◌}
 use native.Mathlib.Omega.{arith}
 use lib.ListN.{get_or}
 use Rattle.basis.specs.Choice.{choose}
-use Rattle.basis.specs.First.{firstFrom}
+use Rattle.basis.specs.First.{first_from}
 use Rattle.basis.proofs.First.{none, here, later}
 use Rattle.basis.proofs.Tests.{clash}
 use Rattle.links.specs.declared.memory.Link.{Link}
 use Rattle.links.specs.declared.search.Wanted.{Wanted}
 use Rattle.links.specs.declared.search.Found.{Found}
-use Rattle.links.specs.Record.{records, recordAt, link_of, isInUse, isEndMark}
-use Rattle.links.specs.Search.{answers, settlesAt, stopOf, stoppedAt, isSought, searchOf, ifFound, isFound}
-use Rattle.links.specs.LiveList.{liveFrom, liveList, FirstWanted, NoneWanted, SearchesFindFirst, SameFound, in_both, in-neither, FoundByList}
-use Rattle.links.proofs.Stop.{at-memory-end, at-end-mark, at-match}
+use Rattle.links.specs.Record.{records, record_at, link_of, is_in_use, is_end_mark}
+use Rattle.links.specs.Search.{answers, settles_at, stop_of, stopped_at, is_sought, search_of, if_found, is_found}
+use Rattle.links.specs.LiveList.{live_from, live_list, FirstWanted, NoneWanted, SearchesFindFirst, SameFound, in_both, in-neither, FoundByList}
+use Rattle.links.proofs.Stop.{at_memory_end, at_end_mark, at_match}
 
 -- what follows from the first record of a list that is looked for, or from none
 unfoldable pick : {A : Type 0} → Wanted → (Link → A) → A → List (List ℕ) → A
@@ -31,37 +31,37 @@ module _ {A : Type 0} (w : Wanted) (then : Link → A) (otherwise : A) where
       rw (f.before 0 (omega arith))
       (pick_first rs i (record { inside = omega (arith, f.inside); wanted = f.wanted; before = λ j h. f.before (suc j) (omega arith) }))
 
-  pick-none : (rs : List (List ℕ)) → NoneWanted w rs → pick w then otherwise rs ≡ otherwise
+  pick_none : (rs : List (List ℕ)) → NoneWanted w rs → pick w then otherwise rs ≡ otherwise
   unfolding pick choose
-  pick-none [] f = refl
-  pick-none (r ∷ rs) f = rw (f 0 (omega arith)) (pick-none rs (λ j h. f (suc j) (omega arith)))
+  pick_none [] f = refl
+  pick_none (r ∷ rs) f = rw (f 0 (omega arith)) (pick_none rs (λ j h. f (suc j) (omega arith)))
 
   -- what follows from the search follows from the live records
   module _ (l : List ℕ) where
     abbrev Agree : ℕ → ℕ → Type 0
-    Agree n k = ifFound (stoppedAt l (firstFrom (settlesAt l w) n k)).found then otherwise ≡ pick w then otherwise (liveFrom (recordAt l) n k)
+    Agree n k = if_found (stopped_at l (first_from (settles_at l w) n k)).found then otherwise ≡ pick w then otherwise (live_from (record_at l) n k)
 
     agree : (n k : ℕ) → k + n ≡ records l → Agree n k
-    unfolding liveFrom pick choose
-    agree zero k e = rw (none (settlesAt l w) k, at-memory-end l k (omega arith))
-    agree (suc n) k e = go (isEndMark (recordAt l k)) (isInUse (recordAt l k)) (answers w (recordAt l k)) refl refl refl (agree n (k + 1) (omega arith))
+    unfolding live_from pick choose
+    agree zero k e = rw (none (settles_at l w) k, at_memory_end l k (omega arith))
+    agree (suc n) k e = go (is_end_mark (record_at l k)) (is_in_use (record_at l k)) (answers w (record_at l k)) refl refl refl (agree n (k + 1) (omega arith))
       where
-        go : (m u a : Bool) → isEndMark (recordAt l k) ≡ m → isInUse (recordAt l k) ≡ u → answers w (recordAt l k) ≡ a → Agree n (k + 1) → Agree (suc n) k
+        go : (m u a : Bool) → is_end_mark (record_at l k) ≡ m → is_in_use (record_at l k) ≡ u → answers w (record_at l k) ≡ a → Agree n (k + 1) → Agree (suc n) k
         go true u a p q r ih =
-            let settled : settlesAt l w k ≡ true = rw p in
-            rw (here (settlesAt l w) (suc n) k (omega arith) settled, at-end-mark l k (omega arith) p, p)
+            let settled : settles_at l w k ≡ true = rw p in
+            rw (here (settles_at l w) (suc n) k (omega arith) settled, at_end_mark l k (omega arith) p, p)
         go false true true p q r ih =
-            let settled : settlesAt l w k ≡ true = rw (p, q, r) in
-            rw (here (settlesAt l w) (suc n) k (omega arith) settled, at-match l k (omega arith) p, p, q, r)
+            let settled : settles_at l w k ≡ true = rw (p, q, r) in
+            rw (here (settles_at l w) (suc n) k (omega arith) settled, at_match l k (omega arith) p, p, q, r)
         go false true false p q r ih =
-            let unsettled : settlesAt l w k ≡ false = rw (p, q, r) in
-            rw (later (settlesAt l w) (suc n) k (omega arith) unsettled, p, q, r) ih
+            let unsettled : settles_at l w k ≡ false = rw (p, q, r) in
+            rw (later (settles_at l w) (suc n) k (omega arith) unsettled, p, q, r) ih
         go false false a p q r ih =
-            let unsettled : settlesAt l w k ≡ false = rw (p, q) in
-            rw (later (settlesAt l w) (suc n) k (omega arith) unsettled, p, q) ih
+            let unsettled : settles_at l w k ≡ false = rw (p, q) in
+            rw (later (settles_at l w) (suc n) k (omega arith) unsettled, p, q) ih
 
-    searched : isSought w ≡ true → ifFound (searchOf l w).found then otherwise ≡ pick w then otherwise (liveList l)
-    unfolding stopOf choose
+    searched : is_sought w ≡ true → if_found (search_of l w).found then otherwise ≡ pick w then otherwise (live_list l)
+    unfolding stop_of choose
     searched s = rw s (agree (records l) 0 (omega arith))
 
 -- a list of which nothing follows has none that is looked for
@@ -77,37 +77,37 @@ unpicked w (r ∷ rs) e j h = go (answers w r) refl e (unpicked w rs) j h
     go false q f ih (suc j) h = ih f j (omega arith)
 
 -- a link that follows from what was found was found
-found-link : (f : Found) (link : Link) → ifFound f Found.Match Found.NoSearch ≡ Found.Match link → f ≡ Found.Match link
-found-link Found.NoSearch link e = absurd (let z : ◌≡◌ {A = ℕ} 0 1 = cc in omega arith)
-found-link (Found.Match other) link e = e
-found-link Found.EndMark link e = absurd (let z : ◌≡◌ {A = ℕ} 0 1 = cc in omega arith)
-found-link Found.MemoryEnd link e = absurd (let z : ◌≡◌ {A = ℕ} 0 1 = cc in omega arith)
+found_link : (f : Found) (link : Link) → if_found f Found.Match Found.NoSearch ≡ Found.Match link → f ≡ Found.Match link
+found_link Found.NoSearch link e = absurd (let z : ◌≡◌ {A = ℕ} 0 1 = cc in omega arith)
+found_link (Found.Match other) link e = e
+found_link Found.EndMark link e = absurd (let z : ◌≡◌ {A = ℕ} 0 1 = cc in omega arith)
+found_link Found.MemoryEnd link e = absurd (let z : ◌≡◌ {A = ℕ} 0 1 = cc in omega arith)
 
-pub finds-first : SearchesFindFirst
-finds-first l w s =
+pub finds_first : SearchesFindFirst
+finds_first l w s =
     record {
-      first_found = λ i f. found-link _ _ (searched w Found.Match Found.NoSearch l s ∙ pick_first w Found.Match Found.NoSearch (liveList l) i f);
-      none_found = (λ e. unpicked w (liveList l) (sym is ∙ e), λ n. is ∙ pick-none w (λ link. true) false (liveList l) n);
+      first_found = λ i f. found_link _ _ (searched w Found.Match Found.NoSearch l s ∙ pick_first w Found.Match Found.NoSearch (live_list l) i f);
+      none_found = (λ e. unpicked w (live_list l) (sym is ∙ e), λ n. is ∙ pick_none w (λ link. true) false (live_list l) n);
     }
   where
-    is : isFound (searchOf l w).found ≡ pick w (λ link. true) false (liveList l)
+    is : is_found (search_of l w).found ≡ pick w (λ link. true) false (live_list l)
     is = searched w (λ link. true) false l s
 
 -- of two memories with one list of live records the same follows
-pub same-follows : {A : Type 0} (l m : List ℕ) (w : Wanted) (then : Link → A) (otherwise : A) → liveList l ≡ liveList m
-    → ifFound (searchOf l w).found then otherwise ≡ ifFound (searchOf m w).found then otherwise
+pub same_follows : {A : Type 0} (l m : List ℕ) (w : Wanted) (then : Link → A) (otherwise : A) → live_list l ≡ live_list m
+    → if_found (search_of l w).found then otherwise ≡ if_found (search_of m w).found then otherwise
 unfolding choose
-same-follows l m w then otherwise e = go (isSought w) refl
+same_follows l m w then otherwise e = go (is_sought w) refl
   where
-    go : (b : Bool) → isSought w ≡ b → ifFound (searchOf l w).found then otherwise ≡ ifFound (searchOf m w).found then otherwise
+    go : (b : Bool) → is_sought w ≡ b → if_found (search_of l w).found then otherwise ≡ if_found (search_of m w).found then otherwise
     go true s = searched w then otherwise l s ∙ ap (pick w then otherwise) e ∙ sym (searched w then otherwise m s)
     go false s = rw s
 
-pub found-by-list : FoundByList
-found-by-list l m w e = go (searchOf l w).found (searchOf m w).found (same-follows l m w Found.Match Found.NoSearch e) (same-follows l m w (λ link. true) false e)
+pub found_by_list : FoundByList
+found_by_list l m w e = go (search_of l w).found (search_of m w).found (same_follows l m w Found.Match Found.NoSearch e) (same_follows l m w (λ link. true) false e)
   where
-    go : (f g : Found) → ifFound f Found.Match Found.NoSearch ≡ ifFound g Found.Match Found.NoSearch → isFound f ≡ isFound g → SameFound f g
+    go : (f g : Found) → if_found f Found.Match Found.NoSearch ≡ if_found g Found.Match Found.NoSearch → is_found f ≡ is_found g → SameFound f g
     go Found.NoSearch g p q = in-neither Found.NoSearch g refl (sym q)
-    go (Found.Match link) g p q = subst (SameFound (Found.Match link)) (sym (found-link g link (sym p))) (in_both link)
+    go (Found.Match link) g p q = subst (SameFound (Found.Match link)) (sym (found_link g link (sym p))) (in_both link)
     go Found.EndMark g p q = in-neither Found.EndMark g refl (sym q)
     go Found.MemoryEnd g p q = in-neither Found.MemoryEnd g refl (sym q)

@@ -6,18 +6,18 @@ use mathlib.Core.List.{List}
 use borrow.Author.Tests.{lt-ltb, le-ltb}
 use Rattle.basis.specs.Choice.{choose}
 use Rattle.links.specs.declared.search.Found.{Found}
-use Rattle.links.specs.Record.{records, recordAt, link_of, isEndMark}
-use Rattle.links.specs.Search.{stoppedAt}
+use Rattle.links.specs.Record.{records, record_at, link_of, is_end_mark}
+use Rattle.links.specs.Search.{stopped_at}
 
 module _ (l : List ℕ) (k : ℕ) where
-  pub at-memory-end : records l ≤ k → stoppedAt l k ≡ record { read = records l; found = Found.MemoryEnd }
+  pub at_memory_end : records l ≤ k → stopped_at l k ≡ record { read = records l; found = Found.MemoryEnd }
   unfolding choose
-  at-memory-end h = rw (le-ltb k (records l) h)
+  at_memory_end h = rw (le-ltb k (records l) h)
 
-  pub at-end-mark : k < records l → isEndMark (recordAt l k) ≡ true → stoppedAt l k ≡ record { read = k + 1; found = Found.EndMark }
+  pub at_end_mark : k < records l → is_end_mark (record_at l k) ≡ true → stopped_at l k ≡ record { read = k + 1; found = Found.EndMark }
   unfolding choose
-  at-end-mark h e = rw (lt-ltb k (records l) h, e)
+  at_end_mark h e = rw (lt-ltb k (records l) h, e)
 
-  pub at-match : k < records l → isEndMark (recordAt l k) ≡ false → stoppedAt l k ≡ record { read = k + 1; found = Found.Match (link_of (recordAt l k)) }
+  pub at_match : k < records l → is_end_mark (record_at l k) ≡ false → stopped_at l k ≡ record { read = k + 1; found = Found.Match (link_of (record_at l k)) }
   unfolding choose
-  at-match h e = rw (lt-ltb k (records l) h, e)
+  at_match h e = rw (lt-ltb k (records l) h, e)

@@ -4,8 +4,8 @@ use mathlib.Core.Path.{◌≡◌}
 use mathlib.Core.List.{List}
 use borrow.Author.Tests.{lt-ltb}
 use Rattle.basis.specs.Choice.{choose}
-use Rattle.links.specs.Record.{records, recordAt, recordOrBlank}
+use Rattle.links.specs.Record.{records, record_at, record_or_blank}
 
-pub taken : (l : List ℕ) (k : ℕ) → k < records l → recordOrBlank l k ≡ recordAt l k
+pub taken : (l : List ℕ) (k : ℕ) → k < records l → record_or_blank l k ≡ record_at l k
 unfolding choose
 taken l k h = rw (lt-ltb k (records l) h)

@@ -5,24 +5,24 @@ use Rattle.wire.specs.declared.address.Address.{Address}
 use Rattle.links.specs.declared.memory.Link.{Link}
 use Rattle.links.specs.declared.search.Wanted.{Wanted}
 use Rattle.links.specs.declared.search.Found.{Found}
-use Rattle.links.specs.Record.{records, recordAt, link_of, isInUse, isEndMark, bears}
+use Rattle.links.specs.Record.{records, record_at, link_of, is_in_use, is_end_mark, bears}
 use Rattle.links.specs.Live.{Live, Linked}
-use Rattle.links.specs.Search.{answers, isSought, searchOf, isFound}
+use Rattle.links.specs.Search.{answers, is_sought, search_of, is_found}
 
 -- of the n records from place k on, by what stands at each place: those in use, up to the first end mark; without one, up to the end
-unfoldable pub liveFrom : (ℕ → List ℕ) → ℕ → ℕ → List (List ℕ)
-liveFrom at zero k = []
-liveFrom at (suc n) k =
-    let later : List (List ℕ) = liveFrom at n (k + 1) in
-    choose (isEndMark (at k)) [] (choose (isInUse (at k)) (at k ∷ later) later)
+unfoldable pub live_from : (ℕ → List ℕ) → ℕ → ℕ → List (List ℕ)
+live_from at zero k = []
+live_from at (suc n) k =
+    let later : List (List ℕ) = live_from at n (k + 1) in
+    choose (is_end_mark (at k)) [] (choose (is_in_use (at k)) (at k ∷ later) later)
 
 -- of n records
-abbrev pub liveListOf : ℕ → (ℕ → List ℕ) → List (List ℕ)
-liveListOf n at = liveFrom at n 0
+abbrev pub live_list_of : ℕ → (ℕ → List ℕ) → List (List ℕ)
+live_list_of n at = live_from at n 0
 
 -- of a link memory
-abbrev pub liveList : List ℕ → List (List ℕ)
-liveList l = liveListOf (records l) (recordAt l)
+abbrev pub live_list : List ℕ → List (List ℕ)
+live_list l = live_list_of (records l) (record_at l)
 
 -- k is one of these places
 pub record Among (k : ℕ) (places : List ℕ) : Type 0 where
@@ -35,7 +35,7 @@ pub record InOrder (l : List ℕ) : Type 0 where
   pub places : List ℕ
   pub rising : (i : ℕ) → i + 1 < length places → get_or places i 0 < get_or places (i + 1) 0
   pub live : (k : ℕ) → Live l k ↔ Among k places
-  pub listed : liveList l ≡ map (recordAt l) places
+  pub listed : live_list l ≡ map (record_at l) places
 
 abbrev pub ListsLive : Type 0
 ListsLive = (l : List ℕ) → InOrder l
@@ -52,20 +52,20 @@ NoneWanted w rs = (j : ℕ) → j < length rs → answers w (get_or rs j []) ≡
 
 -- the first live record that is looked for is found, and no match exactly where there is none
 pub record FindsFirst (l : List ℕ) (w : Wanted) : Type 0 where
-  pub first_found : (i : ℕ) → FirstWanted w (liveList l) i → (searchOf l w).found ≡ Found.Match (link_of (get_or (liveList l) i []))
-  pub none_found : isFound (searchOf l w).found ≡ false ↔ NoneWanted w (liveList l)
+  pub first_found : (i : ℕ) → FirstWanted w (live_list l) i → (search_of l w).found ≡ Found.Match (link_of (get_or (live_list l) i []))
+  pub none_found : is_found (search_of l w).found ≡ false ↔ NoneWanted w (live_list l)
 
 abbrev pub SearchesFindFirst : Type 0
-SearchesFindFirst = (l : List ℕ) (w : Wanted) → isSought w ≡ true → FindsFirst l w
+SearchesFindFirst = (l : List ℕ) (w : Wanted) → is_sought w ≡ true → FindsFirst l w
 
 -- a match in both, of one link, or in neither
 pub data SameFound : Found → Found → Type 0 where
   in_both : (link : Link) → SameFound (Found.Match link) (Found.Match link)
-  in-neither : (f g : Found) → isFound f ≡ false → isFound g ≡ false → SameFound f g
+  in-neither : (f g : Found) → is_found f ≡ false → is_found g ≡ false → SameFound f g
 
 -- what is found, the count aside, goes by the live records alone
 abbrev pub FoundByList : Type 0
-FoundByList = (l m : List ℕ) (w : Wanted) → liveList l ≡ liveList m → SameFound (searchOf l w).found (searchOf m w).found
+FoundByList = (l m : List ℕ) (w : Wanted) → live_list l ≡ live_list m → SameFound (search_of l w).found (search_of m w).found
 
 -- one of these records bears the address
 pub record SomeBears (rs : List (List ℕ)) (a : Address) : Type 0 where
@@ -74,4 +74,4 @@ pub record SomeBears (rs : List (List ℕ)) (a : Address) : Type 0 where
   pub its : bears (get_or rs at []) a ≡ true
 
 abbrev pub LinkedByList : Type 0
-LinkedByList = (l : List ℕ) (a : Address) → Linked l a ↔ SomeBears (liveList l) a
+LinkedByList = (l : List ℕ) (a : Address) → Linked l a ↔ SomeBears (live_list l) a

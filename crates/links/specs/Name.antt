@@ -17,7 +17,7 @@ abbrev pub names : ℕ → ℕ → Bool
 names name k = eqb (name + 8 * k) 0x0fff
 
 -- the record, of n, that an address names; any other address is illegal
-unfoldable pub placeOf : ℕ → ℕ → Place
-placeOf n address =
+unfoldable pub place_of : ℕ → ℕ → Place
+place_of n address =
     let k : ℕ = first (names (meant address)) n in
     choose (ltb k n) (Place.Record k) Place.Illegal

@@ -1,13 +1,13 @@
 // Records up to an end mark ("Link memory").
 ghost use Rattle.std.specs.Prelude.{◌≡◌, ◌-◌, ◌≤◌, min};
 ghost use Rattle.links.specs.Record.{records};
-ghost use Rattle.links.specs.Mark.{upToMark};
+ghost use Rattle.links.specs.Mark.{up_to_mark};
 
 use crate::memory::{is_end_mark, record_at, records};
 
 // Of the `n` records from record `k` on, as far as they are there, those before the first end mark, and the end mark.
 pub fn up_to_mark(links: &[u8], k: usize, n: usize) -> usize
-    ensures { result ≡ upToMark links.now (min n (records links.now - k)) k }
+    ensures { result ≡ up_to_mark links.now (min n (records links.now - k)) k }
 {
     let count = records(links);
     if count <= k {
@@ -19,7 +19,7 @@ pub fn up_to_mark(links: &[u8], k: usize, n: usize) -> usize
 // The same of records that are there.
 fn count_to_mark(links: &[u8], k: usize, n: usize) -> usize
     requires { n ≤ records links.now - k }
-    ensures { result ≡ upToMark links.now n k }
+    ensures { result ≡ up_to_mark links.now n k }
 {
     let mut i: usize = 0;
     loop {

@@ -1,6 +1,6 @@
 // Link memory as records of eight bytes, and the tests of a record ("Link memory").
 ghost use Rattle.std.specs.Prelude.{◌≡◌, ◌+◌, ◌≤◌, ◌<◌, length};
-ghost use Rattle.links.specs.Record.{isFit, records, start_of, recordAt, recordOrBlank, link_of, isInUse, isResponder, isEndMark, bears};
+ghost use Rattle.links.specs.Record.{is_fit, records, start_of, record_at, record_or_blank, link_of, is_in_use, is_responder, is_end_mark, bears};
 
 use wire::address::Address;
 
@@ -17,7 +17,7 @@ pub struct Link {
 
 // Result 2 does not apply.
 pub fn is_fit(links: &[u8]) -> bool
-    ensures { result ≡ isFit links.now }
+    ensures { result ≡ is_fit links.now }
 {
     let n = links.len();
     (1 <= n) & (n <= 2048) & (n % 8 == 0)
@@ -40,7 +40,7 @@ pub(crate) fn start_of(links: &[u8], k: usize) -> usize
 
 // Record `k`. Past the last record it is a never-used one, eight 00.
 pub fn record_or_blank(links: &[u8], k: usize) -> [u8; 8]
-    ensures { result ≡ recordOrBlank links.now k }
+    ensures { result ≡ record_or_blank links.now k }
 {
     if k < links.len() / 8 {
         record_at(links, k)
@@ -52,7 +52,7 @@ pub fn record_or_blank(links: &[u8], k: usize) -> [u8; 8]
 // Record `k`, which is there.
 pub(crate) fn record_at(links: &[u8], k: usize) -> [u8; 8]
     requires { k < records links.now }
-    ensures { result ≡ recordAt links.now k }
+    ensures { result ≡ record_at links.now k }
 {
     let b = start_of(links, k);
     [
@@ -86,21 +86,21 @@ pub(crate) fn link_of(record: [u8; 8]) -> Link
 
 // Bit 1 clear: the end mark.
 pub fn is_end_mark(record: [u8; 8]) -> bool
-    ensures { result ≡ isEndMark «record» }
+    ensures { result ≡ is_end_mark «record» }
 {
     !(record[0] / 2 % 2 == 1)
 }
 
 // Bit 7 set.
 pub(crate) fn is_in_use(record: [u8; 8]) -> bool
-    ensures { result ≡ isInUse «record» }
+    ensures { result ≡ is_in_use «record» }
 {
     record[0] / 128 % 2 == 1
 }
 
 // Bit 6 clear.
 pub(crate) fn is_responder(record: [u8; 8]) -> bool
-    ensures { result ≡ isResponder «record» }
+    ensures { result ≡ is_responder «record» }
 {
     !(record[0] / 64 % 2 == 1)
 }

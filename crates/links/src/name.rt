@@ -1,6 +1,6 @@
 // Names of records on the wire: what an address means stands here alone ("Link memory").
 ghost use Rattle.std.specs.Prelude.{◌≡◌};
-ghost use Rattle.links.specs.Name.{name_of, meant, placeOf};
+ghost use Rattle.links.specs.Name.{name_of, meant, place_of};
 
 #[derive(Drop)]
 pub enum Place {
@@ -17,7 +17,7 @@ pub fn name_of(k: usize) -> usize
 
 // What an address names in a link memory of so many records.
 pub fn place_of(records: usize, address: usize) -> Place
-    ensures { result ≡ placeOf records address }
+    ensures { result ≡ place_of records address }
 {
     let name = meant(address);
     if 0x0fff < name {

@@ -1,6 +1,6 @@
 // The search for a record, which ends at the first record that settles it ("Link memory").
 ghost use Rattle.std.specs.Prelude.{◌≡◌};
-ghost use Rattle.links.specs.Search.{answers, matches, isSought, walk_of, searchOf, isFound};
+ghost use Rattle.links.specs.Search.{answers, matches, is_sought, walk_of, search_of, is_found};
 
 use crate::memory::{Link, bears, is_end_mark, is_in_use, is_responder, link_of, record_at};
 use wire::address::Address;
@@ -33,7 +33,7 @@ pub struct Searched {
 }
 
 pub fn search(links: &[u8], wanted: Wanted) -> Searched
-    ensures { result ≡ searchOf links.now wanted }
+    ensures { result ≡ search_of links.now wanted }
 {
     // The walk is called at one place only, so that a compiler can keep what it looks for, and what it finds, in registers.
     if is_sought(wanted) {
@@ -47,7 +47,7 @@ pub fn search(links: &[u8], wanted: Wanted) -> Searched
 
 // A search is made.
 fn is_sought(wanted: Wanted) -> bool
-    ensures { result ≡ isSought wanted }
+    ensures { result ≡ is_sought wanted }
 {
     match wanted {
         Wanted::Nobody => false,
@@ -106,7 +106,7 @@ fn answers(record: [u8; 8], wanted: Wanted) -> bool
 
 // The search came to a record that was looked for.
 pub fn is_found(found: Found) -> bool
-    ensures { result ≡ isFound found }
+    ensures { result ≡ is_found found }
 {
     match found {
         Found::NoSearch => false,

@@ -1,12 +1,12 @@
 // Bytes over the first ones of a record ("Direct commands, extended").
 ghost use Rattle.std.specs.Prelude.{◌≡◌};
-ghost use Rattle.links.specs.Write.{writtenIfThere};
+ghost use Rattle.links.specs.Write.{written_if_there};
 
 use crate::memory::start_of;
 
 // Where there is no record `k`, or there are more than eight bytes, nothing is written.
 pub fn write(links: &mut [u8], k: usize, bytes: &[u8])
-    ensures { links.new ≡ writtenIfThere links.old k bytes.now }
+    ensures { links.new ≡ written_if_there links.old k bytes.now }
 {
     if links.len() / 8 <= k {
         return;

@@ -4,9 +4,9 @@ use Rattle.load.specs.declared.state.Lamp.{Lamp}
 use Rattle.load.specs.declared.state.Sockets.{Sockets}
 
 -- a lamp: level 00, ramp 1F, on level FF
-abbrev pub freshLamp : Lamp
-freshLamp = record { level = 0x00; ramp = 0x1f; on_level = 0xff }
+abbrev pub fresh_lamp : Lamp
+fresh_lamp = record { level = 0x00; ramp = 0x1f; on_level = 0xff }
 
 -- sockets: off
-abbrev pub freshSockets : Sockets
-freshSockets = record { top = false; bottom = false }
+abbrev pub fresh_sockets : Sockets
+fresh_sockets = record { top = false; bottom = false }

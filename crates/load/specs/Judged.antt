@@ -5,7 +5,7 @@ use Rattle.wire.specs.declared.command.OpenCommand.{OpenCommand}
 use Rattle.wire.specs.declared.command.ModuleCommand.{ModuleCommand}
 use Rattle.wire.specs.declared.command.Extended.{Extended}
 use Rattle.wire.specs.declared.command.Command.{Command}
-use Rattle.wire.specs.Bytes.{command2Of, dataAt}
+use Rattle.wire.specs.Bytes.{command2_of, data_at}
 use Rattle.load.specs.declared.entry.Entry.{Entry}
 
 -- the answer to a command, with a load of type A beside it, is a row; or the command is not listed; or it is as every kind has it
@@ -19,11 +19,11 @@ pub record Leaves (s : List ℕ) (entry : Command → Entry) : Type 0 where
   pub opens : (command : OpenCommand) → entry (Command.Standard (Standard.Open command)) ≡ Entry.Shared
   pub modules : (command : ModuleCommand) → entry (Command.Standard (Standard.Module command)) ≡ Entry.Shared
   pub set-flags : entry (Command.Extended Extended.SetFlags) ≡ Entry.Shared
-  pub x10 : command2Of s ≡ 0x00 → dataAt s 2 ≡ 0x04 → entry (Command.Extended Extended.Properties) ≡ Entry.Shared
-  pub led : command2Of s ≡ 0x00 → dataAt s 2 ≡ 0x07 → entry (Command.Extended Extended.Properties) ≡ Entry.Shared
+  pub x10 : command2_of s ≡ 0x00 → data_at s 2 ≡ 0x04 → entry (Command.Extended Extended.Properties) ≡ Entry.Shared
+  pub led : command2_of s ≡ 0x00 → data_at s 2 ≡ 0x07 → entry (Command.Extended Extended.Properties) ≡ Entry.Shared
   pub database : entry (Command.Extended Extended.Database) ≡ Entry.Shared
 
 -- and of a group's record: the load afterwards is a row, or no row fits
-pub data GroupJudged {A : Type 0} (Row : A → Type 0) (load : A) (isListed : Bool) : Type 0 where
-  is_row : Row load → GroupJudged Row load isListed
-  no_row : isListed ≡ false → GroupJudged Row load isListed
+pub data GroupJudged {A : Type 0} (Row : A → Type 0) (load : A) (is_listed : Bool) : Type 0 where
+  is_row : Row load → GroupJudged Row load is_listed
+  no_row : is_listed ≡ false → GroupJudged Row load is_listed

@@ -1,6 +1,6 @@
 // The loads ("The module we simulate"; the outlet by request 1), and the constants that fresh ones start with.
 ghost use Rattle.std.specs.Prelude.{◌≡◌};
-ghost use Rattle.load.specs.Fresh.{freshLamp, freshSockets};
+ghost use Rattle.load.specs.Fresh.{fresh_lamp, fresh_sockets};
 
 #[derive(Drop)]
 pub enum Load {
@@ -33,7 +33,7 @@ pub const FRESH_TOP: bool = false;
 pub const FRESH_BOTTOM: bool = false;
 
 pub fn fresh_lamp() -> Lamp
-    ensures { result ≡ freshLamp }
+    ensures { result ≡ fresh_lamp }
 {
     Lamp {
         level: FRESH_LEVEL,
@@ -43,7 +43,7 @@ pub fn fresh_lamp() -> Lamp
 }
 
 pub fn fresh_sockets() -> Sockets
-    ensures { result ≡ freshSockets }
+    ensures { result ≡ fresh_sockets }
 {
     Sockets {
         top: FRESH_TOP,

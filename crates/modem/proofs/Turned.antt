@@ -13,11 +13,11 @@ use Rattle.basis.specs.Laid.{laid}
 use Rattle.basis.proofs.Laid.{rest}
 use Rattle.seating.specs.declared.heed.Seating.{Seating}
 use Rattle.seating.specs.declared.heed.Heeded.{Heeded}
-use Rattle.seating.specs.Heed.{Heed, heedOf, Heeds}
-use Rattle.seating.proofs.Laws.{numbered, heed-replied}
+use Rattle.seating.specs.Heed.{Heed, heed_of, Heeds}
+use Rattle.seating.proofs.Laws.{numbered, heed_replied}
 use Rattle.modem.specs.declared.serve.Served.{Served}
 use Rattle.modem.specs.Frames.{framed}
-use Rattle.modem.specs.Serve.{Turn, heededOf, done_of, ample, crampedOf, turn_of, ServePromise}
+use Rattle.modem.specs.Serve.{Turn, heeded_of, done_of, ample, cramped_of, turn_of, ServePromise}
 
 -- the message behind the first two bytes; none where there are no more
 pub message : (s : List ℕ) → mid_of (min (length s) 2) (length s - min (length s) 2) s ≡ drop 2 s
@@ -29,9 +29,9 @@ message s = rest (min (length s) 2) s ∙ go s
     go (x ∷ y ∷ s) = let e : min (length (x ∷ y ∷ s)) 2 ≡ 2 = omega arith in rw e
 
 -- what a message leaves in the room is its reply
-module _ (s : Seating) (l message room : List ℕ) (r : Heeded) (links after : List ℕ) (p : Heeds (heedOf s l message room) s r links after) where
-  pub taken : take r.length after ≡ (heedOf s l message room).reply
-  taken = (λ i. take (p.sent i) (p.room_after i)) ∙ (heed-replied s l message room).start
+module _ (s : Seating) (l message room : List ℕ) (r : Heeded) (links after : List ℕ) (p : Heeds (heed_of s l message room) s r links after) where
+  pub taken : take r.length after ≡ (heed_of s l message room).reply
+  taken = (λ i. take (p.sent i) (p.room_after i)) ∙ (heed_replied s l message room).start
 
   pub as_long : r.length ≡ length (take r.length after)
   as_long = p.sent ∙ sym (ap length taken)
@@ -40,9 +40,9 @@ module _ (s : Seating) (l message room : List ℕ) (r : Heeded) (links after : L
   stands = omega (arith, as_long, length-take r.length after)
 
   pub fits : length (take r.length after) ≤ length room
-  fits = rw taken (heed-replied s l message room).fits
+  fits = rw taken (heed_replied s l message room).fits
 
-  pub told : r ≡ heededOf s (heedOf s l message room)
+  pub told : r ≡ heeded_of s (heed_of s l message room)
   told i = record { number = p.number i; length = p.sent i; read = p.read i; whom = p.whom i; next = p.next i }
 
 module _ (s : Seating) (l frame room out : List ℕ) where
@@ -58,20 +58,20 @@ module _ (s : Seating) (l frame room out : List ℕ) where
         out-after = p ∙ sym (ap (λ (t : Turn). t.out) e);
       }
 
-  pub cramped : length out ≤ 2 * length room → (r : Served) → r ≡ crampedOf s → ServePromise s l frame room out r l room out
+  pub cramped : length out ≤ 2 * length room → (r : Served) → r ≡ cramped_of s → ServePromise s l frame room out r l room out
   unfolding turn_of choose
-  cramped h r is = kept (record { served = crampedOf s; links = l; room = room; out = out }) (rw (le-ltb (2 * length room) (length out) h)) is refl refl refl
+  cramped h r is = kept (record { served = cramped_of s; links = l; room = room; out = out }) (rw (le-ltb (2 * length room) (length out) h)) is refl refl refl
 
   pub done : 2 * length room < length out → (r : Heeded) (links room' out' : List ℕ) (n : ℕ)
-      → Heeds (heedOf s l (drop 2 frame) room) s r links room'
+      → Heeds (heed_of s l (drop 2 frame) room) s r links room'
       → n ≡ length (framed (take r.length room'))
       → out' ≡ laid (framed (take r.length room')) out
       → ServePromise s l frame room out (record { heeded = r; sent = n }) links room' out'
   unfolding turn_of choose
   done h r links room' out' n p q o =
-      let t : Heed = heedOf s l (drop 2 frame) room in
+      let t : Heed = heed_of s l (drop 2 frame) room in
       let e : take r.length room' ≡ t.reply = taken s l (drop 2 frame) room r links room' p in
-      let a : r ≡ heededOf s t = told s l (drop 2 frame) room r links room' p in
+      let a : r ≡ heeded_of s t = told s l (drop 2 frame) room r links room' p in
       let k : n ≡ length (framed t.reply) = q ∙ ap (λ (z : List ℕ). length (framed z)) e in
       kept (done_of s out t) (rw (lt-ltb (2 * length room) (length out) h)) (λ i. record { heeded = a i; sent = k i }) p.memory p.room_after
       (o ∙ ap (λ (z : List ℕ). laid (framed z) out) e)
@@ -79,16 +79,16 @@ module _ (s : Seating) (l frame room out : List ℕ) where
 -- a frame that was served: what its message leaves, with the reply in the room and its frames in `out`
 pub record Shows (s : Seating) (l frame room out : List ℕ) (r : Served) (links room' out' : List ℕ) : Type 0 where
   pub enough : 2 * length room < length out
-  pub answer : r.heeded ≡ heededOf s (heedOf s l (drop 2 frame) room)
-  pub memory : links ≡ (heedOf s l (drop 2 frame) room).links
-  pub reply : take r.heeded.length room' ≡ (heedOf s l (drop 2 frame) room).reply
-  pub frames : take r.sent out' ≡ framed (heedOf s l (drop 2 frame) room).reply
+  pub answer : r.heeded ≡ heeded_of s (heed_of s l (drop 2 frame) room)
+  pub memory : links ≡ (heed_of s l (drop 2 frame) room).links
+  pub reply : take r.heeded.length room' ≡ (heed_of s l (drop 2 frame) room).reply
+  pub frames : take r.sent out' ≡ framed (heed_of s l (drop 2 frame) room).reply
   pub stands : r.heeded.length ≤ length room'
   pub lies : r.sent ≤ length out'
 
 module _ (s : Seating) (l frame room out : List ℕ) (r : Served) (links room' out' : List ℕ) (p : ServePromise s l frame room out r links room' out') where
   abbrev t : Heed
-  t = heedOf s l (drop 2 frame) room
+  t = heed_of s l (drop 2 frame) room
 
   pub shows : (r.heeded.number ≡ 255 → ⊥) → Shows s l frame room out r links room' out'
   unfolding turn_of choose
@@ -96,12 +96,12 @@ module _ (s : Seating) (l frame room out : List ℕ) (r : Served) (links room' o
     where
       go : (b : Bool) → ample room out ≡ b → Shows s l frame room out r links room' out'
       go true q =
-          let e : r ≡ record { heeded = heededOf s t; sent = length (framed t.reply) } = rw q at p.served in
+          let e : r ≡ record { heeded = heeded_of s t; sent = length (framed t.reply) } = rw q at p.served in
           let o : out' ≡ laid (framed t.reply) out = rw q at p.out-after in
           let after : room' ≡ t.room = rw q at p.room_after in
           let long : r.heeded.length ≡ length t.reply = ap (λ (z : Served). z.heeded.length) e in
           let sent : r.sent ≡ length (framed t.reply) = ap (λ (z : Served). z.sent) e in
-          let start = (heed-replied s l (drop 2 frame) room).start in
+          let start = (heed_replied s l (drop 2 frame) room).start in
           let k : length t.reply ≤ length t.room = omega (arith, ap length start, length-take (length t.reply) t.room) in
           record {
             enough = ltb-true (2 * length room) (length out) q;
@@ -113,7 +113,7 @@ module _ (s : Seating) (l frame room out : List ℕ) (r : Served) (links room' o
             lies = rw o (simp length-append (omega (arith, sent)));
           }
       go false q =
-          let e : r ≡ crampedOf s = rw q at p.served in
+          let e : r ≡ cramped_of s = rw q at p.served in
           absurd (is (ap (λ (z : Served). z.heeded.number) e))
 
   -- one that was not: `out` is too short, and nothing is altered
@@ -123,7 +123,7 @@ module _ (s : Seating) (l frame room out : List ℕ) (r : Served) (links room' o
     where
       go : (b : Bool) → ample room out ≡ b → (length out ≤ 2 * length room) × (links ≡ l)
       go true q =
-          let e : r ≡ record { heeded = heededOf s t; sent = length (framed t.reply) } = rw q at p.served in
+          let e : r ≡ record { heeded = heeded_of s t; sent = length (framed t.reply) } = rw q at p.served in
           let same : t.number ≡ 255 = sym (ap (λ (z : Served). z.heeded.number) e) ∙ is in
           absurd (omega (arith, same, numbered s l (drop 2 frame) room))
       go false q = (ltb-false (2 * length room) (length out) q, rw q at p.links-after)

@@ -5,7 +5,7 @@ use Rattle.basis.specs.Laid.{laid}
 use Rattle.row.specs.declared.progress.Whom.{Whom}
 use Rattle.seating.specs.declared.heed.Seating.{Seating}
 use Rattle.seating.specs.declared.heed.Heeded.{Heeded}
-use Rattle.seating.specs.Heed.{Heed, seatedWith, heedOf}
+use Rattle.seating.specs.Heed.{Heed, seated_with, heed_of}
 use Rattle.modem.specs.declared.serve.Served.{Served}
 use Rattle.modem.specs.Frames.{framed}
 
@@ -16,14 +16,14 @@ pub record Turn : Type 0 where
   pub room : List ℕ
   pub out : List ℕ
 
-abbrev pub heededOf : Seating → Heed → Heeded
-heededOf s t = record { number = t.number; length = length t.reply; read = t.read; whom = t.whom; next = seatedWith s t.row }
+abbrev pub heeded_of : Seating → Heed → Heeded
+heeded_of s t = record { number = t.number; length = length t.reply; read = t.read; whom = t.whom; next = seated_with s t.row }
 
 -- the message behind the two bytes of its frame is heeded, and the reply goes out in frames
 abbrev pub done_of : Seating → List ℕ → Heed → Turn
 done_of s out t =
     record {
-      served = record { heeded = heededOf s t; sent = length (framed t.reply) };
+      served = record { heeded = heeded_of s t; sent = length (framed t.reply) };
       links = t.links;
       room = t.room;
       out = laid (framed t.reply) out;
@@ -34,13 +34,13 @@ abbrev pub ample : List ℕ → List ℕ → Bool
 ample room out = ltb (2 * length room) (length out)
 
 -- else no frame is served, and the number is none of the paper's
-abbrev pub crampedOf : Seating → Served
-crampedOf s = record { heeded = record { number = 255; length = 0; read = 0; whom = Whom.Nobody; next = s }; sent = 0 }
+abbrev pub cramped_of : Seating → Served
+cramped_of s = record { heeded = record { number = 255; length = 0; read = 0; whom = Whom.Nobody; next = s }; sent = 0 }
 
 unfoldable pub turn_of : Seating → List ℕ → List ℕ → List ℕ → List ℕ → Turn
 turn_of s l frame room out =
-    choose (ample room out) (done_of s out (heedOf s l (drop 2 frame) room))
-    (record { served = crampedOf s; links = l; room = room; out = out })
+    choose (ample room out) (done_of s out (heed_of s l (drop 2 frame) room))
+    (record { served = cramped_of s; links = l; room = room; out = out })
 
 pub record ServePromise (s : Seating) (l frame room out : List ℕ) (r : Served) (links room' out' : List ℕ) : Type 0 where
   pub served : r ≡ (turn_of s l frame room out).served

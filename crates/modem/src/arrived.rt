@@ -1,7 +1,7 @@
 // The next frame in what has arrived, in pieces of any size ("The program").
 ghost use Rattle.std.specs.Prelude.{◌≡◌, ◌≤◌, ◌<◌, length, drop};
 ghost use Rattle.basis.specs.Laid.{laid};
-ghost use Rattle.modem.specs.Arrived.{stopsAt, frameStart, size_at, seekOf};
+ghost use Rattle.modem.specs.Arrived.{stops_at, frame_start, size_at, seek_of};
 
 // Where a whole frame stands and how long it is; or where the bytes begin that are to be kept until more arrive.
 #[derive(Drop)]
@@ -11,7 +11,7 @@ pub enum Seen {
 }
 
 pub fn seek(s: &[u8]) -> Seen
-    ensures { result ≡ seekOf s.now }
+    ensures { result ≡ seek_of s.now }
 {
     let k = frame_start(s);
     let n = size_at(s, k);
@@ -23,7 +23,7 @@ pub fn seek(s: &[u8]) -> Seen
 
 // Every byte before it starts no frame.
 fn frame_start(s: &[u8]) -> usize
-    ensures { result ≡ frameStart s.now }
+    ensures { result ≡ frame_start s.now }
 {
     let mut k: usize = 0;
     while k < s.len() {
@@ -38,7 +38,7 @@ fn frame_start(s: &[u8]) -> usize
 // A frame starts here, or the byte that would tell has not arrived.
 fn stops_at(s: &[u8], k: usize) -> bool
     requires { k < length s.now }
-    ensures { result ≡ stopsAt s.now k }
+    ensures { result ≡ stops_at s.now k }
 {
     if s[k] != 0x02 {
         return false;

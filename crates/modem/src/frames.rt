@@ -1,7 +1,7 @@
 // Replies as frames: 02 50 before each standard message and 02 51 before each extended one ("The program").
 ghost use Rattle.std.specs.Prelude.{◌≡◌, ◌+◌, ◌*◌, ◌≤◌, ◌<◌, length};
-ghost use Rattle.basis.specs.Laid.{laid, laidIfFits};
-ghost use Rattle.modem.specs.Frames.{markerOf, frame_of, messageSize, framed};
+ghost use Rattle.basis.specs.Laid.{laid, laid_if_fits};
+ghost use Rattle.modem.specs.Frames.{marker_of, frame_of, message_size, framed};
 
 use basis::min;
 use wire::read::is_extended;
@@ -26,7 +26,7 @@ pub(crate) fn put_frames(out: &mut [u8], reply: &[u8]) -> usize
 
 // The first message's size; what is left where that is less.
 fn message_size(reply: &[u8]) -> usize
-    ensures { result ≡ messageSize reply.now }
+    ensures { result ≡ message_size reply.now }
 {
     let n = reply.len();
     if is_extended(reply) {
@@ -38,7 +38,7 @@ fn message_size(reply: &[u8]) -> usize
 
 // What follows 02.
 fn marker_of(message: &[u8]) -> u8
-    ensures { result ≡ markerOf message.now }
+    ensures { result ≡ marker_of message.now }
 {
     if is_extended(message) { 0x51 } else { 0x50 }
 }
@@ -46,7 +46,7 @@ fn marker_of(message: &[u8]) -> u8
 // One message in its frame.
 fn put_frame(out: &mut [u8], message: &[u8])
     requires { 2 + length message.now ≤ length out.old }
-    ensures { out.new ≡ laidIfFits out.old (frame_of message.now) }
+    ensures { out.new ≡ laid_if_fits out.old (frame_of message.now) }
 {
     let marker = marker_of(message);
     basis::lay(out, &[0x02, marker]);

@@ -1,6 +1,6 @@
 // One whole frame to whoever sits there: frame in, seats and link memory on, frames out ("The program").
 ghost use Rattle.std.specs.Prelude.{◌≡◌};
-ghost use Rattle.modem.specs.Serve.{crampedOf, ServePromise};
+ghost use Rattle.modem.specs.Serve.{cramped_of, ServePromise};
 
 use crate::frames::put_frames;
 use basis::min;
@@ -35,7 +35,7 @@ pub fn serve(s: Seating, links: &mut [u8], frame: &[u8], room: &mut [u8], out: &
 }
 
 fn cramped(s: Seating) -> Served
-    ensures { result ≡ crampedOf s }
+    ensures { result ≡ cramped_of s }
 {
     let heeded = Heeded {
         number: CRAMPED,

@@ -25,5 +25,5 @@ unfoldable pub limited : ℕ → ℕ → ℕ → Deed → Deed
 limited a b x deed = choose (within a b x) deed Deed.Unlisted
 
 -- a group's record that fits a row makes this load of the module's
-unfoldable pub groupedBy : Load → Bool → GroupDeed
-groupedBy load isListed = choose isListed (GroupDeed.Done load) GroupDeed.Unlisted
+unfoldable pub grouped_by : Load → Bool → GroupDeed
+grouped_by load is_listed = choose is_listed (GroupDeed.Done load) GroupDeed.Unlisted

@@ -1,13 +1,13 @@
 -- The module's values ("The module we simulate"; the outlet by request 1).
 use Rattle.std.specs.Prelude.{ℕ}
 use Rattle.load.specs.declared.state.Load.{Load}
-use Rattle.load.specs.Fresh.{freshLamp, freshSockets}
+use Rattle.load.specs.Fresh.{fresh_lamp, fresh_sockets}
 use Rattle.module.specs.declared.state.Identity.{Identity}
 use Rattle.module.specs.declared.state.Module.{Module}
 
 -- what every kind starts with: flags 00, LED 3F, X10 20 20, delta 00
-abbrev pub freshWith : Load → Identity → Module
-freshWith load i =
+abbrev pub fresh_with : Load → Identity → Module
+fresh_with load i =
     record {
       identity = i;
       flags = 0x00;
@@ -18,11 +18,11 @@ freshWith load i =
       load = load;
     }
 
-abbrev pub freshDimmer : Identity → Module
-freshDimmer = freshWith (Load.Dimmer freshLamp)
+abbrev pub fresh_dimmer : Identity → Module
+fresh_dimmer = fresh_with (Load.Dimmer fresh_lamp)
 
-abbrev pub freshOutlet : Identity → Module
-freshOutlet = freshWith (Load.Outlet freshSockets)
+abbrev pub fresh_outlet : Identity → Module
+fresh_outlet = fresh_with (Load.Outlet fresh_sockets)
 
 -- the number of a module's kind, as its image has it: 01 a dimmer, 02 an outlet
 abbrev pub kind_of : Load → ℕ

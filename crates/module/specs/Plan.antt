@@ -43,19 +43,19 @@ abbrev pub id_of : Identity → Address
 id_of i = record { high = i.category; middle = i.subcategory; low = i.firmware }
 
 -- the ACK repeats both commands unless stated
-abbrev pub ackTo : Request → Head
-ackTo r = headed ReplyType.Ack r r.command1 r.command2
+abbrev pub ack_to : Request → Head
+ack_to r = headed ReplyType.Ack r r.command1 r.command2
 
-abbrev pub dueOf : Module → Request → Ack → Due
-dueOf m r Ack.Repeated = Due.Alone (ackTo r)
-dueOf m r (Ack.Telling command2) = Due.Alone (headed ReplyType.Ack r r.command1 command2)
-dueOf m r (Ack.AfterDelta command2) = Due.Alone (headed ReplyType.Ack r m.delta command2)
-dueOf m r Ack.WithId = Due.WithId (ackTo r) (id_of m.identity) m.identity.revision
-dueOf m r (Ack.WithProperties d) = Due.WithProperties (ackTo r) d
-dueOf m r (Ack.WithRecords data1 k count) = Due.WithRecords (ackTo r) data1 k count
+abbrev pub due_of : Module → Request → Ack → Due
+due_of m r Ack.Repeated = Due.Alone (ack_to r)
+due_of m r (Ack.Telling command2) = Due.Alone (headed ReplyType.Ack r r.command1 command2)
+due_of m r (Ack.AfterDelta command2) = Due.Alone (headed ReplyType.Ack r m.delta command2)
+due_of m r Ack.WithId = Due.WithId (ack_to r) (id_of m.identity) m.identity.revision
+due_of m r (Ack.WithProperties d) = Due.WithProperties (ack_to r) d
+due_of m r (Ack.WithRecords data1 k count) = Due.WithRecords (ack_to r) data1 k count
 
 -- what a direct command comes to, as a plan
-abbrev pub deedPlan : Module → Request → Deed → Plan
-deedPlan m r (Deed.Done change ack) = done change (dueOf m r ack)
-deedPlan m r (Deed.Written k n) = wrote k n (Due.Alone (ackTo r))
-deedPlan m r Deed.Unlisted = unlisted ReplyType.Nak r
+abbrev pub deed_plan : Module → Request → Deed → Plan
+deed_plan m r (Deed.Done change ack) = done change (due_of m r ack)
+deed_plan m r (Deed.Written k n) = wrote k n (Due.Alone (ack_to r))
+deed_plan m r Deed.Unlisted = unlisted ReplyType.Nak r

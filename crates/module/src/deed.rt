@@ -1,6 +1,6 @@
 // What a direct command that is looked at comes to: it is carried out and ACKed, or it is not listed. Nothing else can be said of it.
 ghost use Rattle.std.specs.Prelude.{◌≡◌};
-ghost use Rattle.module.specs.Deed.{acked, telling, showing, limited, groupedBy};
+ghost use Rattle.module.specs.Deed.{acked, telling, showing, limited, grouped_by};
 
 use crate::change::Change;
 use load::entry::Entry;
@@ -80,7 +80,7 @@ pub fn limited(low: u8, high: u8, x: u8, deed: Deed) -> Deed
 
 // The load afterwards, where the record fits a row.
 pub fn grouped_by(load: Load, is_listed: bool) -> GroupDeed
-    ensures { result ≡ groupedBy load is_listed }
+    ensures { result ≡ grouped_by load is_listed }
 {
     if is_listed {
         GroupDeed::Done(load)

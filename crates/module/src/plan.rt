@@ -1,6 +1,6 @@
 // What is decided for a message: all that is to happen, while nothing has been written yet ("Result numbers").
 ghost use Rattle.std.specs.Prelude.{◌≡◌};
-ghost use Rattle.module.specs.Plan.{headed, done, wrote, refused, unlinked, unlisted, id_of, dueOf, deedPlan};
+ghost use Rattle.module.specs.Plan.{headed, done, wrote, refused, unlinked, unlisted, id_of, due_of, deed_plan};
 
 use crate::change::Change;
 use crate::deed::{Ack, Deed};
@@ -98,7 +98,7 @@ pub fn unlisted(reply_type: ReplyType, r: Request) -> Plan
 
 // What a direct command comes to, as a plan.
 pub fn deed_plan(m: Module, r: Request, deed: Deed) -> Plan
-    ensures { result ≡ deedPlan m r deed }
+    ensures { result ≡ deed_plan m r deed }
 {
     match deed {
         Deed::Done(change, ack) => done(change, due_of(m, r, ack)),
@@ -108,7 +108,7 @@ pub fn deed_plan(m: Module, r: Request, deed: Deed) -> Plan
 }
 
 fn due_of(m: Module, r: Request, ack: Ack) -> Due
-    ensures { result ≡ dueOf m r ack }
+    ensures { result ≡ due_of m r ack }
 {
     let identity = m.identity;
     let both = headed(ReplyType::Ack, r, r.command1, r.command2);

@@ -1,6 +1,6 @@
 // One module, as values: what every kind has, and its load ("The module we simulate").
 ghost use Rattle.std.specs.Prelude.{◌≡◌};
-ghost use Rattle.module.specs.Module.{freshWith, freshDimmer, freshOutlet};
+ghost use Rattle.module.specs.Module.{fresh_with, fresh_dimmer, fresh_outlet};
 
 use load::state::{Load, fresh_lamp, fresh_sockets};
 use wire::address::Address;
@@ -39,14 +39,14 @@ pub const FRESH_DELTA: u8 = 0x00;
 impl Module {
     // A fresh dimmer of an identity.
     pub fn fresh_dimmer(identity: Identity) -> Module
-        ensures { result ≡ freshDimmer identity }
+        ensures { result ≡ fresh_dimmer identity }
     {
         fresh(identity, Load::Dimmer(fresh_lamp()))
     }
 
     // A fresh outlet of an identity.
     pub fn fresh_outlet(identity: Identity) -> Module
-        ensures { result ≡ freshOutlet identity }
+        ensures { result ≡ fresh_outlet identity }
     {
         fresh(identity, Load::Outlet(fresh_sockets()))
     }
@@ -54,7 +54,7 @@ impl Module {
 
 // What every kind starts with.
 fn fresh(identity: Identity, load: Load) -> Module
-    ensures { result ≡ freshWith load identity }
+    ensures { result ≡ fresh_with load identity }
 {
     Module {
         identity: identity,

@@ -3,17 +3,17 @@ use Rattle.std.specs.Prelude.{ℕ, ◌+◌, ◌*◌, Bool, true, false, List, []
 use Rattle.basis.specs.Choice.{choose}
 use Rattle.basis.specs.Table.{Row, among, ◌⇒◌}
 use Rattle.wire.specs.declared.request.Request.{Request}
-use Rattle.wire.specs.Bytes.{dataIn}
+use Rattle.wire.specs.Bytes.{data_in}
 use Rattle.load.specs.declared.entry.Entry.{Entry}
 use Rattle.load.specs.declared.state.Sockets.{Sockets}
 use Rattle.outlet.specs.declared.sockets.SocketsEntry.{SocketsEntry}
-use Rattle.outlet.specs.Sockets.{with_top, withBottom, becomes, stays}
+use Rattle.outlet.specs.Sockets.{with_top, with_bottom, becomes, stays}
 
-abbrev pub atTop : Sockets → Bool → SocketsEntry
-atTop sockets on = becomes (with_top on sockets)
+abbrev pub at_top : Sockets → Bool → SocketsEntry
+at_top sockets on = becomes (with_top on sockets)
 
-abbrev pub atBottom : Sockets → Bool → SocketsEntry
-atBottom sockets on = becomes (withBottom on sockets)
+abbrev pub at_bottom : Sockets → Bool → SocketsEntry
+at_bottom sockets on = becomes (with_bottom on sockets)
 
 -- FF or 00
 unfoldable pub full_of : Bool → ℕ
@@ -23,39 +23,39 @@ full_of on = choose on 0xff 0x00
 unfoldable pub bit_of : Bool → ℕ
 bit_of on = choose on 1 0
 
-abbrev pub bothOf : Sockets → ℕ
-bothOf sockets = bit_of sockets.top + 2 * bit_of sockets.bottom
+abbrev pub both_of : Sockets → ℕ
+both_of sockets = bit_of sockets.top + 2 * bit_of sockets.bottom
 
 -- 19: Command 2 says what is shown
 abbrev pub statuses : Sockets → List (Row SocketsEntry)
 statuses sockets =
     0x00 ⇒ stays sockets (Entry.Shows (full_of sockets.top)) ∷
-    0x01 ⇒ stays sockets (Entry.Shows (bothOf sockets)) ∷
+    0x01 ⇒ stays sockets (Entry.Shows (both_of sockets)) ∷
     []
 
-unfoldable pub statusEntry : Sockets → ℕ → SocketsEntry
-statusEntry sockets command2 = among command2 (stays sockets Entry.Unlisted) (statuses sockets)
+unfoldable pub status_entry : Sockets → ℕ → SocketsEntry
+status_entry sockets command2 = among command2 (stays sockets Entry.Unlisted) (statuses sockets)
 
 -- standard 11 and 13 switch the top socket
-abbrev pub loadRows : Sockets → ℕ → List (Row SocketsEntry)
-loadRows sockets command2 =
-    0x11 ⇒ atTop sockets true ∷
-    0x13 ⇒ atTop sockets false ∷
-    0x19 ⇒ statusEntry sockets command2 ∷
+abbrev pub load_rows : Sockets → ℕ → List (Row SocketsEntry)
+load_rows sockets command2 =
+    0x11 ⇒ at_top sockets true ∷
+    0x13 ⇒ at_top sockets false ∷
+    0x19 ⇒ status_entry sockets command2 ∷
     []
 
-unfoldable pub loadEntry : Sockets → Request → SocketsEntry
-loadEntry sockets r = among r.command1 (stays sockets Entry.Unlisted) (loadRows sockets r.command2)
+unfoldable pub load_entry : Sockets → Request → SocketsEntry
+load_entry sockets r = among r.command1 (stays sockets Entry.Unlisted) (load_rows sockets r.command2)
 
 -- extended ones with Data 1 = 02 switch the bottom socket; any other Data 1 is not listed
-unfoldable pub bottomEntry : Sockets → List ℕ → Bool → SocketsEntry
-bottomEntry sockets d on = choose (eqb (dataIn d 1) 0x02) (atBottom sockets on) (stays sockets Entry.Unlisted)
+unfoldable pub bottom_entry : Sockets → List ℕ → Bool → SocketsEntry
+bottom_entry sockets d on = choose (eqb (data_in d 1) 0x02) (at_bottom sockets on) (stays sockets Entry.Unlisted)
 
-abbrev pub secondRows : Sockets → List ℕ → List (Row SocketsEntry)
-secondRows sockets d =
-    0x11 ⇒ bottomEntry sockets d true ∷
-    0x13 ⇒ bottomEntry sockets d false ∷
+abbrev pub second_rows : Sockets → List ℕ → List (Row SocketsEntry)
+second_rows sockets d =
+    0x11 ⇒ bottom_entry sockets d true ∷
+    0x13 ⇒ bottom_entry sockets d false ∷
     []
 
-unfoldable pub secondEntry : Sockets → Request → List ℕ → SocketsEntry
-secondEntry sockets r d = among r.command1 (stays sockets Entry.Unlisted) (secondRows sockets d)
+unfoldable pub second_entry : Sockets → Request → List ℕ → SocketsEntry
+second_entry sockets r d = among r.command1 (stays sockets Entry.Unlisted) (second_rows sockets d)

@@ -8,8 +8,8 @@ use Rattle.outlet.specs.declared.sockets.SocketsEntry.{SocketsEntry}
 abbrev pub with_top : Bool → Sockets → Sockets
 with_top on sockets = record { top = on; bottom = sockets.bottom }
 
-abbrev pub withBottom : Bool → Sockets → Sockets
-withBottom on sockets = record { top = sockets.top; bottom = on }
+abbrev pub with_bottom : Bool → Sockets → Sockets
+with_bottom on sockets = record { top = sockets.top; bottom = on }
 
 -- carried out: the sockets are these then
 abbrev pub becomes : Sockets → SocketsEntry

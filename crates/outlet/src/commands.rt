@@ -1,6 +1,6 @@
 // What a command does to an outlet's sockets: standard ones to the top socket, extended ones to the bottom one (request 1).
 ghost use Rattle.std.specs.Prelude.{◌≡◌, ◌≤◌};
-ghost use Rattle.outlet.specs.Load.{atTop, atBottom, full_of, bit_of, bothOf, statusEntry, loadEntry, bottomEntry, secondEntry};
+ghost use Rattle.outlet.specs.Load.{at_top, at_bottom, full_of, bit_of, both_of, status_entry, load_entry, bottom_entry, second_entry};
 
 use crate::sockets::{SocketsEntry, becomes, stays};
 use load::entry::Entry;
@@ -9,7 +9,7 @@ use wire::request::Request;
 
 // Command 2 is read by 19 alone.
 pub(crate) fn load_entry(sockets: Sockets, r: Request) -> SocketsEntry
-    ensures { result ≡ loadEntry sockets r }
+    ensures { result ≡ load_entry sockets r }
 {
     let command1 = r.command1;
     match command1 {
@@ -21,7 +21,7 @@ pub(crate) fn load_entry(sockets: Sockets, r: Request) -> SocketsEntry
 }
 
 pub(crate) fn second_entry(sockets: Sockets, r: Request, data: [u8; 14]) -> SocketsEntry
-    ensures { result ≡ secondEntry sockets r «data» }
+    ensures { result ≡ second_entry sockets r «data» }
 {
     let command1 = r.command1;
     match command1 {
@@ -33,7 +33,7 @@ pub(crate) fn second_entry(sockets: Sockets, r: Request, data: [u8; 14]) -> Sock
 
 // Data 1 = 02 names the bottom socket, and nothing else is listed.
 fn bottom_entry(sockets: Sockets, data: [u8; 14], is_on: bool) -> SocketsEntry
-    ensures { result ≡ bottomEntry sockets «data» is_on }
+    ensures { result ≡ bottom_entry sockets «data» is_on }
 {
     let which = data[0];
     match which {
@@ -43,7 +43,7 @@ fn bottom_entry(sockets: Sockets, data: [u8; 14], is_on: bool) -> SocketsEntry
 }
 
 fn at_top(sockets: Sockets, is_on: bool) -> SocketsEntry
-    ensures { result ≡ atTop sockets is_on }
+    ensures { result ≡ at_top sockets is_on }
 {
     becomes(Sockets {
         top: is_on,
@@ -52,7 +52,7 @@ fn at_top(sockets: Sockets, is_on: bool) -> SocketsEntry
 }
 
 fn at_bottom(sockets: Sockets, is_on: bool) -> SocketsEntry
-    ensures { result ≡ atBottom sockets is_on }
+    ensures { result ≡ at_bottom sockets is_on }
 {
     becomes(Sockets {
         bottom: is_on,
@@ -62,7 +62,7 @@ fn at_bottom(sockets: Sockets, is_on: bool) -> SocketsEntry
 
 // 19: Command 2 says what is shown.
 fn status_entry(sockets: Sockets, command2: u8) -> SocketsEntry
-    ensures { result ≡ statusEntry sockets command2 }
+    ensures { result ≡ status_entry sockets command2 }
 {
     match command2 {
         0x00 => stays(sockets, Entry::Shows(full_of(sockets.top))),
@@ -80,7 +80,7 @@ fn full_of(is_on: bool) -> u8
 
 // The top socket in bit 0, the bottom one in bit 1.
 fn both_of(sockets: Sockets) -> u8
-    ensures { result ≡ bothOf sockets }
+    ensures { result ≡ both_of sockets }
 {
     bit_of(sockets.top) + 2 * bit_of(sockets.bottom)
 }

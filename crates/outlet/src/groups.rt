@@ -1,6 +1,6 @@
 // What the deciding record of a group does to an outlet: its D3 names the socket (request 1).
 ghost use Rattle.std.specs.Prelude.{◌≡◌};
-ghost use Rattle.outlet.specs.Groups.{unfit, socketGroup, group_of};
+ghost use Rattle.outlet.specs.Groups.{unfit, socket_group, group_of};
 
 use links::memory::Link;
 use load::state::Sockets;
@@ -25,7 +25,7 @@ pub fn group_of(sockets: Sockets, command: GroupCommand, link: Link) -> SocketsG
 
 // 01 is the top socket and 02 the bottom one; a record with another D3 is not listed.
 fn socket_group(sockets: Sockets, which: u8, is_on: bool) -> SocketsGroup
-    ensures { result ≡ socketGroup sockets which is_on }
+    ensures { result ≡ socket_group sockets which is_on }
 {
     match which {
         0x01 => SocketsGroup {

@@ -1,6 +1,6 @@
 // 2E: an outlet shows the ramp and the on level of a fresh module, and has none to set (request 1).
 ghost use Rattle.std.specs.Prelude.{◌≡◌};
-ghost use Rattle.outlet.specs.Properties.{propertyEntry, propertiesEntry};
+ghost use Rattle.outlet.specs.Properties.{property_entry, properties_entry};
 
 use crate::sockets::{SocketsEntry, stays};
 use load::entry::{Entry, Properties};
@@ -9,7 +9,7 @@ use wire::request::Request;
 
 // Command 2 must be 00.
 pub(crate) fn properties_entry(sockets: Sockets, r: Request, data: [u8; 14]) -> SocketsEntry
-    ensures { result ≡ propertiesEntry sockets r «data» }
+    ensures { result ≡ properties_entry sockets r «data» }
 {
     let command2 = r.command2;
     match command2 {
@@ -20,7 +20,7 @@ pub(crate) fn properties_entry(sockets: Sockets, r: Request, data: [u8; 14]) -> 
 
 // Data 2 says what is asked for.
 fn property_entry(sockets: Sockets, data: [u8; 14]) -> SocketsEntry
-    ensures { result ≡ propertyEntry sockets «data» }
+    ensures { result ≡ property_entry sockets «data» }
 {
     let what = data[1];
     match what {

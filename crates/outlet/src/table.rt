@@ -1,6 +1,6 @@
 // An outlet's own rows; the others are as every kind has them (request 1).
 ghost use Rattle.std.specs.Prelude.{◌≡◌};
-ghost use Rattle.outlet.specs.Table.{standardEntry, extendedEntry, entry_of};
+ghost use Rattle.outlet.specs.Table.{standard_entry, extended_entry, entry_of};
 
 use crate::commands::{load_entry, second_entry};
 use crate::properties::properties_entry;
@@ -21,7 +21,7 @@ pub fn entry_of(sockets: Sockets, r: Request, data: [u8; 14], command: Command) 
 }
 
 fn standard_entry(sockets: Sockets, r: Request, command: Standard) -> SocketsEntry
-    ensures { result ≡ standardEntry sockets r command }
+    ensures { result ≡ standard_entry sockets r command }
 {
     match command {
         Standard::Open(_) => stays(sockets, Entry::Shared),
@@ -31,7 +31,7 @@ fn standard_entry(sockets: Sockets, r: Request, command: Standard) -> SocketsEnt
 }
 
 fn extended_entry(sockets: Sockets, r: Request, data: [u8; 14], command: Extended) -> SocketsEntry
-    ensures { result ≡ extendedEntry sockets r «data» command }
+    ensures { result ≡ extended_entry sockets r «data» command }
 {
     match command {
         Extended::SetFlags => stays(sockets, Entry::Shared),

@@ -9,12 +9,12 @@ use Rattle.promises.specs.LegalAny.{shared}
 use Rattle.promises.specs.Flags.{SetsFlag, ClearsFlag}
 use Rattle.promises.proofs.Legal.{taken}
 
-pub sets-flag : SetsFlag
-sets-flag m l s room b h x few code bits enough =
+pub sets_flag : SetsFlag
+sets_flag m l s room b h x few code bits enough =
     let done = taken m l s room _ h enough (shared (set-flag x b few code)) in
     subst (SetIn 8 b m.flags) (sym (ap (λ (n : Module). n.flags) done.next)) (sets 8 b m.flags (omega arith) bits)
 
-pub clears-flag : ClearsFlag
-clears-flag m l s room b h x few code bits enough =
+pub clears_flag : ClearsFlag
+clears_flag m l s room b h x few code bits enough =
     let done = taken m l s room _ h enough (shared (clear-flag x b few code)) in
     subst (ClearIn 8 b m.flags) (sym (ap (λ (n : Module). n.flags) done.next)) (clears 8 b m.flags (omega arith) bits)

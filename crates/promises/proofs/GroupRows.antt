@@ -3,13 +3,13 @@ use mathlib.Core.Path.{◌≡◌}
 use Rattle.load.specs.declared.state.Load.{Load}
 use Rattle.module.specs.declared.state.Module.{Module}
 use Rattle.module.specs.declared.deed.GroupDeed.{GroupDeed}
-use Rattle.module.specs.Change.{withLoad}
+use Rattle.module.specs.Change.{with_load}
 
 -- a deed that gives the module another load
 pub record Alters (m after : Module) (deed : GroupDeed) : Type 0 where
   pub load : Load
   pub done : deed ≡ GroupDeed.Done load
-  pub next : withLoad load m ≡ after
+  pub next : with_load load m ≡ after
 
 -- a row fits, or the deed is not listed
 pub data RowJudged (Row : Module → Type 0) (deed : GroupDeed) : Type 0 where

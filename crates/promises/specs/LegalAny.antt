@@ -7,7 +7,7 @@ use Rattle.load.specs.declared.state.Lamp.{Lamp}
 use Rattle.load.specs.declared.state.Sockets.{Sockets}
 use Rattle.load.specs.declared.state.Load.{Load}
 use Rattle.module.specs.declared.state.Module.{Module}
-use Rattle.module.specs.Change.{withLoad}
+use Rattle.module.specs.Change.{with_load}
 use Rattle.dimmer.specs.Legal.{Dimmer}
 use Rattle.outlet.specs.Legal.{Outlet}
 use Rattle.device.specs.Step.{step_of}
@@ -21,7 +21,7 @@ pub data Own (s : List ℕ) : Load → Load → Entry → Type 0 where
 
 -- what such an answer brings about
 pub data Brought (m : Module) (l s : List ℕ) (next : Load) : Entry → Effect → Type 0 where
-  done : Brought m l s next Entry.Done (becomes m l s (withLoad next m))
+  done : Brought m l s next Entry.Done (becomes m l s (with_load next m))
   -- the delta, and a value
   shows : (x : ℕ) → Brought m l s next (Entry.Shows x) (sends m l (ack m s m.delta x))
   shown : (p : Properties) → Brought m l s next (Entry.Shown p) (sends m l (repeated m s ++ properties m s p))

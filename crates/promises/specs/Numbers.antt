@@ -1,20 +1,20 @@
 -- "Result numbers": the table, a line a number, and the order 2, 1, 3, 4, 8, 6, 7, with 5 last.
 use Rattle.std.specs.Prelude.{ℕ, ◌%◌, ◌≤◌, ◌<◌, ◌≡◌, true, false, List, [], ◌↔◌, length}
-use Rattle.wire.specs.Bytes.{fromOf, toOf, command2Of, isExtended, equals}
-use Rattle.wire.specs.Kinds.{isDirect, isCleanup, isBroadcast}
-use Rattle.wire.specs.Checksum.{isSumWrong}
-use Rattle.links.specs.Record.{recordAt, link_of}
+use Rattle.wire.specs.Bytes.{from_of, to_of, command2_of, is_extended, equals}
+use Rattle.wire.specs.Kinds.{is_direct, is_cleanup, is_broadcast}
+use Rattle.wire.specs.Checksum.{is_sum_wrong}
+use Rattle.links.specs.Record.{record_at, link_of}
 use Rattle.results.specs.Number.{number_of}
 use Rattle.module.specs.declared.state.Module.{Module}
 use Rattle.device.specs.Step.{step_of}
-use Rattle.promises.specs.Room.{dueTo}
-use Rattle.promises.specs.Demand1.{nakOf}
-use Rattle.promises.specs.Demand3.{Stranger, pingOrId}
+use Rattle.promises.specs.Room.{due_to}
+use Rattle.promises.specs.Demand1.{nak_of}
+use Rattle.promises.specs.Demand3.{Stranger, ping_or_id}
 use Rattle.promises.specs.Legal.{Effect, sends, Ends}
 use Rattle.promises.specs.LegalAny.{Legal}
 use Rattle.promises.specs.Responders.{FirstResponder, NoResponder}
 use Rattle.wire.specs.Asked.{GroupCommand1}
-use Rattle.promises.specs.Groups.{GroupLegal, NoRow, broadcastEffect, cleanupEffect, Unconcerned}
+use Rattle.promises.specs.Groups.{GroupLegal, NoRow, broadcast_effect, cleanup_effect, Unconcerned}
 
 -- 2: link memory length 0, over 2,048, or no multiple of 8
 pub data When2 (l : List ℕ) : Type 0 where
@@ -25,46 +25,46 @@ pub data When2 (l : List ℕ) : Type 0 where
 -- 1: length not 9 or 23, or flags bit 4 disagrees with it
 pub data When1 (s : List ℕ) : Type 0 where
   other_length : ¬ (length s ≡ 9) → ¬ (length s ≡ 23) → When1 s
-  short-but-set : length s ≡ 9 → isExtended s ≡ true → When1 s
-  long-but-clear : length s ≡ 23 → isExtended s ≡ false → When1 s
+  short-but-set : length s ≡ 9 → is_extended s ≡ true → When1 s
+  long-but-clear : length s ≡ 23 → is_extended s ≡ false → When1 s
 
 -- 3: other type; extended but not direct; direct or cleanup with To not ours
 pub data When3 (m : Module) (s : List ℕ) : Type 0 where
-  other-type : isDirect s ≡ false → isCleanup s ≡ false → isBroadcast s ≡ false → When3 m s
-  long-not-direct : isExtended s ≡ true → isDirect s ≡ false → When3 m s
-  direct-astray : isDirect s ≡ true → equals (toOf s) m.identity.address ≡ false → When3 m s
-  cleanup-astray : isCleanup s ≡ true → equals (toOf s) m.identity.address ≡ false → When3 m s
+  other-type : is_direct s ≡ false → is_cleanup s ≡ false → is_broadcast s ≡ false → When3 m s
+  long-not-direct : is_extended s ≡ true → is_direct s ≡ false → When3 m s
+  direct-astray : is_direct s ≡ true → equals (to_of s) m.identity.address ≡ false → When3 m s
+  cleanup-astray : is_cleanup s ≡ true → equals (to_of s) m.identity.address ≡ false → When3 m s
 
 -- 4: checked checksum wrong
 abbrev pub When4 : List ℕ → Type 0
-When4 s = isSumWrong s ≡ true
+When4 s = is_sum_wrong s ≡ true
 
 -- 8: group broadcast that concerns us not
 abbrev pub When8 : Module → List ℕ → List ℕ → Type 0
-When8 m l s = (isBroadcast s ≡ true) × Unconcerned m l s
+When8 m l s = (is_broadcast s ≡ true) × Unconcerned m l s
 
 -- 6: sender not linked (cleanup: no responder record)
 pub data When6 (l s : List ℕ) : Type 0 where
-  not-linked : isDirect s ≡ true → pingOrId s ≡ false → Stranger l s → When6 l s
-  no_record : isCleanup s ≡ true → NoResponder l (fromOf s) (command2Of s) → When6 l s
+  not-linked : is_direct s ≡ true → ping_or_id s ≡ false → Stranger l s → When6 l s
+  no_record : is_cleanup s ≡ true → NoResponder l (from_of s) (command2_of s) → When6 l s
 
 -- 7: command or a number in it not listed here
 pub data When7 (m : Module) (l s : List ℕ) : Type 0 where
-  not_listed : isDirect s ≡ true → ((e : Effect) → ¬ Legal m l s e) → When7 m l s
-  no-group-command : isCleanup s ≡ true → ¬ GroupCommand1 s → When7 m l s
+  not_listed : is_direct s ≡ true → ((e : Effect) → ¬ Legal m l s e) → When7 m l s
+  no-group-command : is_cleanup s ≡ true → ¬ GroupCommand1 s → When7 m l s
   -- the first responder record fits no row of the module's kind
-  no-group-row : (k : ℕ) → isCleanup s ≡ true → FirstResponder l (fromOf s) (command2Of s) k → NoRow m s (link_of (recordAt l k)) → When7 m l s
+  no-group-row : (k : ℕ) → is_cleanup s ≡ true → FirstResponder l (from_of s) (command2_of s) k → NoRow m s (link_of (record_at l k)) → When7 m l s
 
 -- 0: carried out, as the tables of direct commands and of groups say
 pub data When0 (m : Module) (l s : List ℕ) : Effect → Type 0 where
-  direct : (e : Effect) → isDirect s ≡ true → Legal m l s e → When0 m l s e
-  cleanup : (k : ℕ) (next : Module) → isCleanup s ≡ true
-      → FirstResponder l (fromOf s) (command2Of s) k → GroupLegal m s (link_of (recordAt l k)) next → When0 m l s (cleanupEffect m l s next)
-  broadcast : (k : ℕ) (next : Module) → isBroadcast s ≡ true
-      → FirstResponder l (fromOf s) (toOf s).low k → GroupLegal m s (link_of (recordAt l k)) next → When0 m l s (broadcastEffect l next)
+  direct : (e : Effect) → is_direct s ≡ true → Legal m l s e → When0 m l s e
+  cleanup : (k : ℕ) (next : Module) → is_cleanup s ≡ true
+      → FirstResponder l (from_of s) (command2_of s) k → GroupLegal m s (link_of (record_at l k)) next → When0 m l s (cleanup_effect m l s next)
+  broadcast : (k : ℕ) (next : Module) → is_broadcast s ≡ true
+      → FirstResponder l (from_of s) (to_of s).low k → GroupLegal m s (link_of (record_at l k)) next → When0 m l s (broadcast_effect l next)
 
 module _ (m : Module) (l s : List ℕ) where
-  -- none of 2, 1, 3 and 4: link memory is fit and the message well-formed
+  -- none of 2, 1, 3 and 4: link memory is fit and the message well_formed_lem
   pub record Sound : Type 0 where
     pub fit : ¬ When2 l
     pub whole : ¬ When1 s
@@ -83,8 +83,8 @@ module _ (m : Module) (l s : List ℕ) where
     three : ¬ When2 l → ¬ When1 s → When3 m s → Line 3 (sends m l [])
     four : ¬ When2 l → ¬ When1 s → ¬ When3 m s → When4 s → Line 4 (sends m l [])
     eight : Sound → When8 m l s → Line 8 (sends m l [])
-    six : Sound → ¬ When8 m l s → When6 l s → Line 6 (sends m l (nakOf m s 0xff))
-    seven : Sound → ¬ When8 m l s → ¬ When6 l s → When7 m l s → Line 7 (sends m l (nakOf m s 0xfb))
+    six : Sound → ¬ When8 m l s → When6 l s → Line 6 (sends m l (nak_of m s 0xff))
+    seven : Sound → ¬ When8 m l s → ¬ When6 l s → When7 m l s → Line 7 (sends m l (nak_of m s 0xfb))
     zero : Sound → ¬ When8 m l s → ¬ When6 l s → ¬ When7 m l s → (e : Effect) → When0 m l s e → Line 0 e
 
   module _ (room : List ℕ) where
@@ -103,7 +103,7 @@ NoOther = (m : Module) (l s room : List ℕ) (n : ℕ) → Given m l s room n �
 
 -- the other columns: the reply due is the line's; where it fits, all is as the line says; where not, nothing is sent or altered
 pub record AsTheLine (m : Module) (l s room : List ℕ) (n : ℕ) (e : Effect) : Type 0 where
-  pub due : dueTo m l s ≡ e.reply
+  pub due : due_to m l s ≡ e.reply
   pub fitting : length e.reply ≤ length room → Ends room n e (step_of m l s room)
   pub short : length room < length e.reply → Ends room 5 (sends m l []) (step_of m l s room)
 

@@ -2,38 +2,38 @@
 use Rattle.std.specs.Prelude.{ℕ, Bool, true, false, List, [], ◌∷◌, ◌++◌}
 use Rattle.load.specs.declared.state.Load.{Load}
 use Rattle.module.specs.declared.state.Module.{Module}
-use Rattle.module.specs.Module.{freshOutlet}
-use Rattle.module.specs.Change.{with_flags, withLed, withX10, withDelta, withLoad}
-use Rattle.promises.specs.Bench.{fresh, us, linked, stranger, zeros, first-record, other-record, memory}
+use Rattle.module.specs.Module.{fresh_outlet}
+use Rattle.module.specs.Change.{with_flags, with_led, with_x10, with_delta, with_load}
+use Rattle.promises.specs.Bench.{fresh, us, linked, stranger, zeros, first_record, other_record, memory}
 use Rattle.promises.specs.Bench.{direct, long, cleanup, broadcast, reply, room}
 use Rattle.promises.specs.Examples.{database}
 use Rattle.promises.specs.Table.{Example, row}
 
 unfoldable pub outlet : Module
 outlet =
-    freshOutlet
+    fresh_outlet
     (record { address = record { high = 0x00; middle = 0x10; low = 0x3a }; category = 0x02; subcategory = 0x39; firmware = 0xc2; revision = 0x00 })
 
 -- the same with its top and its bottom socket so
 unfoldable pub switched : Bool → Bool → Module
-switched top bottom = withLoad (Load.Outlet (record { top = top; bottom = bottom })) outlet
+switched top bottom = with_load (Load.Outlet (record { top = top; bottom = bottom })) outlet
 
 -- the linked sender's record by its D1 and D3
 unfoldable pub record_of : ℕ → ℕ → List ℕ
 record_of d1 d3 = 0xa2 ∷ 0x01 ∷ 0xaa ∷ 0xbb ∷ 0xcc ∷ d1 ∷ 0x1c ∷ d3 ∷ []
 
-unfoldable pub to-top-off : List ℕ
-to-top-off = record_of 0x00 0x01 ++ zeros 8
+unfoldable pub to_top_off : List ℕ
+to_top_off = record_of 0x00 0x01 ++ zeros 8
 
-unfoldable pub to-bottom : List ℕ
-to-bottom = record_of 0x80 0x02 ++ zeros 8
+unfoldable pub to_bottom : List ℕ
+to_bottom = record_of 0x80 0x02 ++ zeros 8
 
 -- a record that names no socket, before one that does
-unfoldable pub to-neither : List ℕ
-to-neither = record_of 0x80 0x03 ++ first-record
+unfoldable pub to_neither : List ℕ
+to_neither = record_of 0x80 0x03 ++ first_record
 
-unfoldable pub group-1 : List ℕ
-group-1 = 0x00 ∷ 0x00 ∷ 0x01 ∷ []
+unfoldable pub group_1 : List ℕ
+group_1 = 0x00 ∷ 0x00 ∷ 0x01 ∷ []
 
 -- Get Properties, with Data 1 = 07, and what it is answered with, by the LED
 unfoldable pub get : List ℕ
@@ -85,7 +85,7 @@ outlets =
     -- 19 00: FF or 00 for the top socket, after the delta
     takes outlet (direct linked 0x19 0x00) 0x00 0x00 outlet ∷
     takes (switched false true) (direct linked 0x19 0x00) 0x00 0x00 (switched false true) ∷
-    takes (withDelta 0x05 (switched true false)) (direct linked 0x19 0x00) 0x05 0xff (withDelta 0x05 (switched true false)) ∷
+    takes (with_delta 0x05 (switched true false)) (direct linked 0x19 0x00) 0x05 0xff (with_delta 0x05 (switched true false)) ∷
     -- 19 01: both
     takes outlet (direct linked 0x19 0x01) 0x00 0x00 outlet ∷
     takes (switched true false) (direct linked 0x19 0x01) 0x00 0x01 (switched true false) ∷
@@ -104,22 +104,22 @@ outlets =
     -- Get Properties: the fresh ramp and on level, before and after
     row outlet memory get (room 64)
     0 (got 0x3f) 1 outlet memory (got 0x3f ++ room 32) ∷
-    row (withLed 0x7f (switched true true)) memory get (room 64)
-    0 (got 0x7f) 1 (withLed 0x7f (switched true true)) memory (got 0x7f ++ room 32) ∷
+    row (with_led 0x7f (switched true true)) memory get (room 64)
+    0 (got 0x7f) 1 (with_led 0x7f (switched true true)) memory (got 0x7f ++ room 32) ∷
     -- house and unit, and the LED, are set as on a dimmer
-    takes outlet (long linked 0x2e 0x00 (0x00 ∷ 0x04 ∷ 0x06 ∷ 0x0a ∷ (zeros 9 ++ (0xbe ∷ [])))) 0x2e 0x00 (withX10 0x06 0x0a outlet) ∷
-    takes outlet (long linked 0x2e 0x00 (0x00 ∷ 0x07 ∷ 0x7f ∷ (zeros 10 ++ (0x4c ∷ [])))) 0x2e 0x00 (withLed 0x7f outlet) ∷
+    takes outlet (long linked 0x2e 0x00 (0x00 ∷ 0x04 ∷ 0x06 ∷ 0x0a ∷ (zeros 9 ++ (0xbe ∷ [])))) 0x2e 0x00 (with_x10 0x06 0x0a outlet) ∷
+    takes outlet (long linked 0x2e 0x00 (0x00 ∷ 0x07 ∷ 0x7f ∷ (zeros 10 ++ (0x4c ∷ [])))) 0x2e 0x00 (with_led 0x7f outlet) ∷
     refuses outlet (long linked 0x2e 0x00 (0x00 ∷ 0x07 ∷ 0x10 ∷ (zeros 10 ++ (0xbb ∷ [])))) 0x2e ∷
     -- 0F, 0D, 1F 01, 30
     answered outlet memory (direct linked 0x0f 0x00) 0 linked 0x2f 0x0f 0x00 0 outlet ∷
     takes outlet (direct linked 0x0d 0x00) 0x0d 0x02 outlet ∷
-    takes (withDelta 0x05 outlet) (direct linked 0x1f 0x01) 0x1f 0x05 (withDelta 0x05 outlet) ∷
+    takes (with_delta 0x05 outlet) (direct linked 0x1f 0x01) 0x1f 0x05 (with_delta 0x05 outlet) ∷
     takes (switched true true) (direct linked 0x30 0x00) 0x30 0x00 (switched true true) ∷
     -- the database is read, and a record written
     row (switched true false) memory (long linked 0x2f 0x00 (0x07 ∷ 0x00 ∷ 0x0f ∷ 0xff ∷ zeros 10)) (room 64)
     0 database 1 (switched true false) memory (database ++ room 9) ∷
-    row (switched true false) memory (long linked 0x2f 0x00 (0x01 ∷ 0x02 ∷ 0x0f ∷ 0xf7 ∷ 0x08 ∷ (other-record ++ (0x19 ∷ [])))) (room 64)
-    0 (reply linked 0x2f 0x2f 0x00) 1 (withDelta 0x01 (switched true false)) (first-record ++ other-record) (reply linked 0x2f 0x2f 0x00 ++ room 55) ∷
+    row (switched true false) memory (long linked 0x2f 0x00 (0x01 ∷ 0x02 ∷ 0x0f ∷ 0xf7 ∷ 0x08 ∷ (other_record ++ (0x19 ∷ [])))) (room 64)
+    0 (reply linked 0x2f 0x2f 0x00) 1 (with_delta 0x01 (switched true false)) (first_record ++ other_record) (reply linked 0x2f 0x2f 0x00 ++ room 55) ∷
     -- not legal here
     refuses outlet (direct linked 0x12 0x80) 0x12 ∷
     refuses (switched true true) (direct linked 0x14 0x00) 0x14 ∷
@@ -145,19 +145,19 @@ outlets =
     answered outlet memory (direct stranger 0x11 0x80) 6 stranger 0xaf 0x11 0xff 2 outlet ∷
     answered outlet memory (direct stranger 0x12 0x80) 6 stranger 0xaf 0x12 0xff 2 outlet ∷
     -- group broadcasts: D3 = 01, 02, and neither
-    mute outlet memory (broadcast linked group-1 0x11 0x00) 0 1 (switched true false) ∷
-    mute outlet to-bottom (broadcast linked group-1 0x12 0x00) 0 1 (switched false true) ∷
-    mute (switched true true) memory (broadcast linked group-1 0x13 0x00) 0 1 (switched false true) ∷
-    mute (switched true true) to-bottom (broadcast linked group-1 0x14 0x00) 0 1 (switched true false) ∷
-    mute (switched true true) to-top-off (broadcast linked group-1 0x11 0x00) 0 1 (switched false true) ∷
-    mute outlet to-neither (broadcast linked group-1 0x11 0x00) 8 1 outlet ∷
-    mute (switched true true) to-neither (broadcast linked group-1 0x13 0x00) 8 1 (switched true true) ∷
+    mute outlet memory (broadcast linked group_1 0x11 0x00) 0 1 (switched true false) ∷
+    mute outlet to_bottom (broadcast linked group_1 0x12 0x00) 0 1 (switched false true) ∷
+    mute (switched true true) memory (broadcast linked group_1 0x13 0x00) 0 1 (switched false true) ∷
+    mute (switched true true) to_bottom (broadcast linked group_1 0x14 0x00) 0 1 (switched true false) ∷
+    mute (switched true true) to_top_off (broadcast linked group_1 0x11 0x00) 0 1 (switched false true) ∷
+    mute outlet to_neither (broadcast linked group_1 0x11 0x00) 8 1 outlet ∷
+    mute (switched true true) to_neither (broadcast linked group_1 0x13 0x00) 8 1 (switched true true) ∷
     -- cleanups: the same
     answered outlet memory (cleanup linked 0x11 0x01) 0 linked 0x6f 0x11 0x01 1 (switched true false) ∷
-    answered outlet to-bottom (cleanup linked 0x12 0x01) 0 linked 0x6f 0x12 0x01 1 (switched false true) ∷
+    answered outlet to_bottom (cleanup linked 0x12 0x01) 0 linked 0x6f 0x12 0x01 1 (switched false true) ∷
     answered (switched true true) memory (cleanup linked 0x13 0x01) 0 linked 0x6f 0x13 0x01 1 (switched false true) ∷
-    answered (switched true true) to-bottom (cleanup linked 0x14 0x01) 0 linked 0x6f 0x14 0x01 1 (switched true false) ∷
-    answered (switched true true) to-top-off (cleanup linked 0x11 0x01) 0 linked 0x6f 0x11 0x01 1 (switched false true) ∷
-    answered outlet to-neither (cleanup linked 0x11 0x01) 7 linked 0xef 0x11 0xfb 1 outlet ∷
-    answered (switched true true) to-neither (cleanup linked 0x13 0x01) 7 linked 0xef 0x13 0xfb 1 (switched true true) ∷
+    answered (switched true true) to_bottom (cleanup linked 0x14 0x01) 0 linked 0x6f 0x14 0x01 1 (switched true false) ∷
+    answered (switched true true) to_top_off (cleanup linked 0x11 0x01) 0 linked 0x6f 0x11 0x01 1 (switched false true) ∷
+    answered outlet to_neither (cleanup linked 0x11 0x01) 7 linked 0xef 0x11 0xfb 1 outlet ∷
+    answered (switched true true) to_neither (cleanup linked 0x13 0x01) 7 linked 0xef 0x13 0xfb 1 (switched true true) ∷
     []

@@ -1,6 +1,6 @@
 -- Bad messages, and the order of refusals ("Result numbers"), beyond the examples that the paper marks.
 use Rattle.std.specs.Prelude.{ℕ, List, [], ◌∷◌, ◌++◌, take}
-use Rattle.promises.specs.Bench.{fresh, us, linked, stranger, zeros, other-record, memory, direct, long, cleanup, broadcast, reply, room}
+use Rattle.promises.specs.Bench.{fresh, us, linked, stranger, zeros, other_record, memory, direct, long, cleanup, broadcast, reply, room}
 use Rattle.promises.specs.Table.{Example, row}
 
 -- a ping of the linked sender, by its flags
@@ -93,7 +93,7 @@ refusals =
     row fresh memory (direct linked 0x39 0x65) (room 8)
     5 [] 1 fresh memory (room 8) ∷
     -- 5: the record is not written
-    row fresh memory (long linked 0x2f 0x00 (0x01 ∷ 0x02 ∷ 0x0f ∷ 0xff ∷ 0x08 ∷ (other-record ++ (0x11 ∷ [])))) (room 8)
+    row fresh memory (long linked 0x2f 0x00 (0x01 ∷ 0x02 ∷ 0x0f ∷ 0xff ∷ 0x08 ∷ (other_record ++ (0x11 ∷ [])))) (room 8)
     5 [] 1 fresh memory (room 8) ∷
     -- 8: a broadcast to no group
     row fresh memory (broadcast linked (0x00 ∷ 0x01 ∷ 0x01 ∷ []) 0x11 0x00) (room 64)

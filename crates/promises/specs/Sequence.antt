@@ -1,7 +1,7 @@
 -- P7's two messages, one after the other ("Bench examples").
 use Rattle.std.specs.Prelude.{◌≡◌, List, [], ◌∷◌, map}
 use Rattle.device.specs.Run.{Call, run_of}
-use Rattle.promises.specs.Bench.{withLevel, fresh, linked, memory, direct, reply, room}
+use Rattle.promises.specs.Bench.{with_level, fresh, linked, memory, direct, reply, room}
 use Rattle.promises.specs.Table.{out_of}
 
 unfoldable pub calls : List Call
@@ -13,6 +13,6 @@ calls =
 abbrev pub OneAfterTheOther : Type 0
 OneAfterTheOther =
     map out_of (run_of (record { device = fresh; links = memory }) calls) ≡
-    record { number = 0; sent = reply linked 0x2f 0x39 0x32; read = 1; next = withLevel 0x80 fresh; links = memory; room = reply linked 0x2f 0x39 0x32 } ∷
-    record { number = 0; sent = reply linked 0x2f 0x00 0x32; read = 1; next = withLevel 0x80 fresh; links = memory; room = reply linked 0x2f 0x00 0x32 } ∷
+    record { number = 0; sent = reply linked 0x2f 0x39 0x32; read = 1; next = with_level 0x80 fresh; links = memory; room = reply linked 0x2f 0x39 0x32 } ∷
+    record { number = 0; sent = reply linked 0x2f 0x00 0x32; read = 1; next = with_level 0x80 fresh; links = memory; room = reply linked 0x2f 0x00 0x32 } ∷
     []

@@ -3,18 +3,18 @@ use Rattle.std.specs.Prelude.{ℕ, ◌/◌, ◌%◌, ◌≡◌, List, ◌∷◌}
 use Rattle.results.specs.Number.{number_of}
 use Rattle.load.specs.declared.state.Load.{Load}
 use Rattle.module.specs.declared.state.Module.{Module}
-use Rattle.module.specs.Change.{with_flags, withLed, withLoad}
+use Rattle.module.specs.Change.{with_flags, with_led, with_load}
 use Rattle.dimmer.specs.Rates as lamps
 use Rattle.device.specs.Step.{Step, step_of}
 
 -- a dimmer's lamp with another ramp rate and on level; an outlet has none
-abbrev pub withRates : ℕ → ℕ → Load → Load
-withRates ramp onLevel (Load.Dimmer lamp) = Load.Dimmer (lamps.withRates ramp onLevel lamp)
-withRates ramp onLevel (Load.Outlet sockets) = Load.Outlet sockets
+abbrev pub with_rates : ℕ → ℕ → Load → Load
+with_rates ramp on_level (Load.Dimmer lamp) = Load.Dimmer (lamps.with_rates ramp on_level lamp)
+with_rates ramp on_level (Load.Outlet sockets) = Load.Outlet sockets
 
 -- the module with other flags, LED, ramp rate and on level
 abbrev pub stored : ℕ → ℕ → ℕ → ℕ → Module → Module
-stored flags led ramp onLevel m = with_flags flags (withLed led (withLoad (withRates ramp onLevel m.load) m))
+stored flags led ramp on_level m = with_flags flags (with_led led (with_load (with_rates ramp on_level m.load) m))
 
 -- one module is the other with some such values: its level, or its sockets, and all the rest are equal
 pub record Besides (m n : Module) : Type 0 where

@@ -13,38 +13,38 @@ use Rattle.wire.specs.Bytes.{flags_of, is_whole}
 use Rattle.reply.specs.declared.due.ReplyType.{ReplyType}
 use Rattle.reply.specs.declared.due.Head.{Head}
 use Rattle.reply.specs.declared.due.Due.{Due}
-use Rattle.reply.specs.Message.{typeBits, replyFlags, standard, extended, head_of, dataBytes}
-use Rattle.reply.specs.Records.{recordMessage, recordsFrom, countSent}
-use Rattle.reply.specs.Reply.{replyOf}
+use Rattle.reply.specs.Message.{type_bits, reply_flags, standard, extended, head_of, data_bytes}
+use Rattle.reply.specs.Records.{record_message, records_from, count_sent}
+use Rattle.reply.specs.Reply.{reply_of}
 
 -- its records, one message each
-abbrev recordMessages : Address → Address → ℕ → ℕ → List ℕ → ℕ → ℕ → List (List ℕ)
-recordMessages own to hops data1 l zero k = []
-recordMessages own to hops data1 l (suc n) k = recordMessage own to hops data1 l k ∷ recordMessages own to hops data1 l n (k + 1)
+abbrev record_messages : Address → Address → ℕ → ℕ → List ℕ → ℕ → ℕ → List (List ℕ)
+record_messages own to hops data1 l zero k = []
+record_messages own to hops data1 l (suc n) k = record_message own to hops data1 l k ∷ record_messages own to hops data1 l n (k + 1)
 
-abbrev pub messagesOf : Address → List ℕ → Due → List (List ℕ)
-messagesOf own l Due.Nothing = []
-messagesOf own l (Due.Alone h) = head_of own h ∷ []
-messagesOf own l (Due.WithId h id revision) = head_of own h ∷ standard own id ReplyType.IdBroadcast h.hops 0x01 revision ∷ []
-messagesOf own l (Due.WithProperties h d) = head_of own h ∷ extended own h.to h.hops 0x2e (dataBytes d) ∷ []
-messagesOf own l (Due.WithRecords h data1 k count) = head_of own h ∷ recordMessages own h.to h.hops data1 l (countSent l k count) k
+abbrev pub messages_of : Address → List ℕ → Due → List (List ℕ)
+messages_of own l Due.Nothing = []
+messages_of own l (Due.Alone h) = head_of own h ∷ []
+messages_of own l (Due.WithId h id revision) = head_of own h ∷ standard own id ReplyType.IdBroadcast h.hops 0x01 revision ∷ []
+messages_of own l (Due.WithProperties h d) = head_of own h ∷ extended own h.to h.hops 0x2e (data_bytes d) ∷ []
+messages_of own l (Due.WithRecords h data1 k count) = head_of own h ∷ record_messages own h.to h.hops data1 l (count_sent l k count) k
 
-records-joined : (own to : Address) (hops data1 : ℕ) (l : List ℕ) (n k : ℕ) → recordsFrom own to hops data1 l n k ≡ flatten (recordMessages own to hops data1 l n k)
-unfolding recordsFrom flatten
-records-joined own to hops data1 l zero k = refl
-records-joined own to hops data1 l (suc n) k = ap (λ (z : List ℕ). recordMessage own to hops data1 l k ++ z) (records-joined own to hops data1 l n (k + 1))
+records_joined : (own to : Address) (hops data1 : ℕ) (l : List ℕ) (n k : ℕ) → records_from own to hops data1 l n k ≡ flatten (record_messages own to hops data1 l n k)
+unfolding records_from flatten
+records_joined own to hops data1 l zero k = refl
+records_joined own to hops data1 l (suc n) k = ap (λ (z : List ℕ). record_message own to hops data1 l k ++ z) (records_joined own to hops data1 l n (k + 1))
 
-pub joined : (own : Address) (l : List ℕ) (due : Due) → replyOf own l due ≡ flatten (messagesOf own l due)
+pub joined : (own : Address) (l : List ℕ) (due : Due) → reply_of own l due ≡ flatten (messages_of own l due)
 unfolding flatten
 joined own l Due.Nothing = refl
 joined own l (Due.Alone h) = refl
 joined own l (Due.WithId h id revision) = refl
 joined own l (Due.WithProperties h d) = refl
-joined own l (Due.WithRecords h data1 k count) = ap (λ (z : List ℕ). head_of own h ++ z) (records-joined own h.to h.hops data1 l (countSent l k count) k)
+joined own l (Due.WithRecords h data1 k count) = ap (λ (z : List ℕ). head_of own h ++ z) (records_joined own h.to h.hops data1 l (count_sent l k count) k)
 
 -- the message that it begins with is a standard one, flags bit 4 is clear, and has these hops
 pub record Opens (hops : ℕ) (h : Head) : Type 0 where
-  pub short : is_set 4 (typeBits h.reply_type) ≡ false
+  pub short : is_set 4 (type_bits h.reply_type) ≡ false
   pub fresh : h.hops ≡ hops
 
 abbrev pub Begins : ℕ → Due → Type 0
@@ -55,7 +55,7 @@ Begins hops (Due.WithProperties h d) = Opens hops h
 Begins hops (Due.WithRecords h data1 k count) = Opens hops h
 
 -- hops are added below the type bits and the extended bit
-sixteens : (type : ReplyType) → typeBits type ≡ 16 * (typeBits type / 16)
+sixteens : (type : ReplyType) → type_bits type ≡ 16 * (type_bits type / 16)
 sixteens ReplyType.Ack = refl
 sixteens ReplyType.Nak = refl
 sixteens ReplyType.CleanupAck = refl
@@ -63,9 +63,9 @@ sixteens ReplyType.CleanupNak = refl
 sixteens ReplyType.IdBroadcast = refl
 sixteens ReplyType.Data = refl
 
-by-type : (type : ReplyType) (hops : ℕ) → is_set 4 (replyFlags type hops) ≡ is_set 4 (typeBits type)
-by-type type hops =
-    let above : replyFlags type hops / 16 ≡ typeBits type / 16 = omega (arith, sixteens type) in
+by_type : (type : ReplyType) (hops : ℕ) → is_set 4 (reply_flags type hops) ≡ is_set 4 (type_bits type)
+by_type type hops =
+    let above : reply_flags type hops / 16 ≡ type_bits type / 16 = omega (arith, sixteens type) in
     ap (λ (x : ℕ). eqb (x % 2) 1) above
 
 -- a message of a reply: whole, and with hops left, bits 3 and 2, and largest, bits 1 and 0, of a request that has these
@@ -74,29 +74,29 @@ pub record Sound (hops : ℕ) (message : List ℕ) : Type 0 where
   pub left : flags_of message / 4 % 4 ≡ hops % 4
   pub largest : flags_of message % 4 ≡ hops % 4
 
-sound : (type : ReplyType) (hops : ℕ) (message : List ℕ) → flags_of message ≡ replyFlags type hops → is_whole message ≡ true → Sound hops message
+sound : (type : ReplyType) (hops : ℕ) (message : List ℕ) → flags_of message ≡ reply_flags type hops → is_whole message ≡ true → Sound hops message
 sound type hops message f w = record { whole = w; left = ap (λ (x : ℕ). x / 4 % 4) f ∙ left_by; largest = omega (arith, f, sixteens type) }
   where
-    fourth : replyFlags type hops / 4 ≡ 4 * (typeBits type / 16) + hops % 4
+    fourth : reply_flags type hops / 4 ≡ 4 * (type_bits type / 16) + hops % 4
     fourth = omega (arith, sixteens type)
 
     below : (b q : ℕ) → q < 4 → (4 * b + q) % 4 ≡ q
     below b q h = omega arith
 
-    left_by : replyFlags type hops / 4 % 4 ≡ hops % 4
-    left_by = ap (λ (x : ℕ). x % 4) fourth ∙ below (typeBits type / 16) (hops % 4) (omega arith)
+    left_by : reply_flags type hops / 4 % 4 ≡ hops % 4
+    left_by = ap (λ (x : ℕ). x % 4) fourth ∙ below (type_bits type / 16) (hops % 4) (omega arith)
 
-standard-sound : (from to : Address) (type : ReplyType) (hops one two : ℕ) → is_set 4 (typeBits type) ≡ false → Sound hops (standard from to type hops one two)
+standard_sound : (from to : Address) (type : ReplyType) (hops one two : ℕ) → is_set 4 (type_bits type) ≡ false → Sound hops (standard from to type hops one two)
 unfolding choose
-standard-sound from to type hops one two e = sound type hops _ refl (rw (by-type type hops ∙ e))
+standard_sound from to type hops one two e = sound type hops _ refl (rw (by_type type hops ∙ e))
 
-head-sound : (own : Address) (hops : ℕ) (h : Head) → Opens hops h → Sound hops (head_of own h)
-head-sound own hops h o =
-    subst (λ (n : ℕ). Sound n (head_of own h)) o.fresh (standard-sound own h.to h.reply_type h.hops h.command1 h.command2 o.short)
+head_sound : (own : Address) (hops : ℕ) (h : Head) → Opens hops h → Sound hops (head_of own h)
+head_sound own hops h o =
+    subst (λ (n : ℕ). Sound n (head_of own h)) o.fresh (standard_sound own h.to h.reply_type h.hops h.command1 h.command2 o.short)
 
-extended-sound : (from to : Address) (hops one : ℕ) (bytes : List ℕ) → length bytes ≡ 14 → Sound hops (extended from to hops one bytes)
+extended_sound : (from to : Address) (hops one : ℕ) (bytes : List ℕ) → length bytes ≡ 14 → Sound hops (extended from to hops one bytes)
 unfolding choose
-extended-sound from to hops one bytes e = sound ReplyType.Data hops _ refl (rw (by-type ReplyType.Data hops, e))
+extended_sound from to hops one bytes e = sound ReplyType.Data hops _ refl (rw (by_type ReplyType.Data hops, e))
 
 -- each of them is so
 abbrev pub Each : ℕ → List (List ℕ) → Type 0
@@ -109,26 +109,26 @@ next : (hops : ℕ) (m : List ℕ) (ms : List (List ℕ)) → Sound hops m → E
 next hops m ms w f zero h = w
 next hops m ms w f (suc i) h = f i (omega arith)
 
-records-sound : (own to : Address) (hops data1 : ℕ) (l : List ℕ) (n k : ℕ) → Each hops (recordMessages own to hops data1 l n k)
-records-sound own to hops data1 l zero k = none hops
-records-sound own to hops data1 l (suc n) k =
-    next hops _ (recordMessages own to hops data1 l n (k + 1)) (extended-sound own to hops 0x2f _ refl) (records-sound own to hops data1 l n (k + 1))
+records_sound : (own to : Address) (hops data1 : ℕ) (l : List ℕ) (n k : ℕ) → Each hops (record_messages own to hops data1 l n k)
+records_sound own to hops data1 l zero k = none hops
+records_sound own to hops data1 l (suc n) k =
+    next hops _ (record_messages own to hops data1 l n (k + 1)) (extended_sound own to hops 0x2f _ refl) (records_sound own to hops data1 l n (k + 1))
 
 -- behind its head
-pub each-sound : (own : Address) (l : List ℕ) (hops : ℕ) (due : Due) → Begins hops due → Each hops (messagesOf own l due)
-each-sound own l hops due e = go due e
+pub each_sound : (own : Address) (l : List ℕ) (hops : ℕ) (due : Due) → Begins hops due → Each hops (messages_of own l due)
+each_sound own l hops due e = go due e
   where
     behind : (h : Head) (ms : List (List ℕ)) → Opens hops h → Each h.hops ms → Each hops (head_of own h ∷ ms)
-    behind h ms o f = next hops _ ms (head-sound own hops h o) (subst (λ (n : ℕ). Each n ms) o.fresh f)
+    behind h ms o f = next hops _ ms (head_sound own hops h o) (subst (λ (n : ℕ). Each n ms) o.fresh f)
 
     alone : (n : ℕ) (m : List ℕ) → Sound n m → Each n (m ∷ [])
     alone n m w = next n m [] w (none n)
 
-    go : (due : Due) → Begins hops due → Each hops (messagesOf own l due)
+    go : (due : Due) → Begins hops due → Each hops (messages_of own l due)
     go Due.Nothing o = none hops
     go (Due.Alone h) o = behind h [] o (none h.hops)
-    go (Due.WithId h id revision) o = behind h (_ ∷ []) o (alone h.hops _ (standard-sound own id ReplyType.IdBroadcast h.hops 0x01 revision refl))
-    go (Due.WithProperties h d) o = behind h (_ ∷ []) o (alone h.hops _ (extended-sound own h.to h.hops 0x2e (dataBytes d) refl))
+    go (Due.WithId h id revision) o = behind h (_ ∷ []) o (alone h.hops _ (standard_sound own id ReplyType.IdBroadcast h.hops 0x01 revision refl))
+    go (Due.WithProperties h d) o = behind h (_ ∷ []) o (alone h.hops _ (extended_sound own h.to h.hops 0x2e (data_bytes d) refl))
     go (Due.WithRecords h data1 k count) o =
-        let n : ℕ = countSent l k count in
-        behind h (recordMessages own h.to h.hops data1 l n k) o (records-sound own h.to h.hops data1 l n k)
+        let n : ℕ = count_sent l k count in
+        behind h (record_messages own h.to h.hops data1 l n k) o (records_sound own h.to h.hops data1 l n k)

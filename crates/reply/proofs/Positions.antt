@@ -8,12 +8,12 @@ use native.Mathlib.Omega.{arith}
 use lib.Dec.{eqb, ltb}
 use borrow.Author.Tests.{eqb-true, eqb-false, ltb-true, ltb-false}
 use Rattle.basis.specs.Choice.{choose}
-use Rattle.basis.specs.First.{firstFrom}
+use Rattle.basis.specs.First.{first_from}
 use Rattle.basis.proofs.First.{Told, at, nowhere, told}
 use Rattle.basis.proofs.Tests.{clash}
 use Rattle.links.specs.Record.{records}
-use Rattle.links.specs.Mark.{markAt, upToMark}
-use Rattle.reply.specs.Records.{limit, countSent}
+use Rattle.links.specs.Mark.{mark_at, up_to_mark}
+use Rattle.reply.specs.Records.{limit, count_sent}
 use Rattle.reply.specs.Positions.{Ending, asked, marked, memory-end, SentFrom}
 
 -- what bounds them: the count, 00 for none, and the memory's end
@@ -52,12 +52,12 @@ module _ (l : List ℕ) (k count : ℕ) where
   fewer n m h (inl e) = inl e
   fewer n m h (inr e) = inr (omega arith)
 
-  as-bound : (n : ℕ) → (n ≡ count) ⊎ (k + n ≡ records l) → Ending l k count n
-  as-bound n (inl e) = asked e
-  as-bound n (inr e) = memory-end e
+  as_bound : (n : ℕ) → (n ≡ count) ⊎ (k + n ≡ records l) → Ending l k count n
+  as_bound n (inl e) = asked e
+  as_bound n (inr e) = memory-end e
 
   -- of n records those up to the first end mark
-  up_to : (n : ℕ) → Bound l k count n → (m : ℕ) → Told (markAt l) n k m → SentFrom l k count (min n (m + 1 - k))
+  up_to : (n : ℕ) → Bound l k count n → (m : ℕ) → Told (mark_at l) n k m → SentFrom l k count (min n (m + 1 - k))
   up_to n b m (at a) =
       let e : min n (m + 1 - k) ≡ m + 1 - k = omega (arith, a.inside) in
       let last : k + (m - k) ≡ m = omega (arith, a.from) in
@@ -77,18 +77,18 @@ module _ (l : List ℕ) (k count : ℕ) where
         few = b.few;
         inside = b.inside;
         unmarked = λ j g. w.never (k + j) (omega arith) (omega arith);
-        ending = as-bound n b.met;
+        ending = as_bound n b.met;
       })
 
-  pub counted : k < records l → SentFrom l k count (countSent l k count)
-  unfolding upToMark
+  pub counted : k < records l → SentFrom l k count (count_sent l k count)
+  unfolding up_to_mark
   counted h =
       let n : ℕ = limit l k count in
-      up_to n (bounded l k count h) (firstFrom (markAt l) n k) (told (markAt l) n k)
+      up_to n (bounded l k count h) (first_from (mark_at l) n k) (told (mark_at l) n k)
 
   -- no smaller number is all
-  not-fewer : (n m : ℕ) → SentFrom l k count n → SentFrom l k count m → n < m → ⊥
-  not-fewer n m a b h = go a.ending
+  not_fewer : (n m : ℕ) → SentFrom l k count n → SentFrom l k count m → n < m → ⊥
+  not_fewer n m a b h = go a.ending
     where
       by_count : n ≡ count → (count ≡ 0) ⊎ (m ≤ count) → ⊥
       by_count e (inl z) = omega (arith, a.some)
@@ -103,6 +103,6 @@ module _ (l : List ℕ) (k count : ℕ) where
   only n m a b = go (ltb n m) (ltb m n) refl refl
     where
       go : (t u : Bool) → ltb n m ≡ t → ltb m n ≡ u → n ≡ m
-      go true u p q = absurd (not-fewer n m a b (ltb-true n m p))
-      go false true p q = absurd (not-fewer m n b a (ltb-true m n q))
+      go true u p q = absurd (not_fewer n m a b (ltb-true n m p))
+      go false true p q = absurd (not_fewer m n b a (ltb-true m n q))
       go false false p q = omega (arith, ltb-false n m p, ltb-false m n q)

@@ -5,19 +5,19 @@ use mathlib.Core.List.{List, [], ◌++◌}
 use native.Mathlib.Omega.{arith}
 use lib.ListN.{length, length-append}
 use Rattle.wire.specs.declared.address.Address.{Address}
-use Rattle.reply.specs.Records.{recordMessage, recordsFrom}
+use Rattle.reply.specs.Records.{record_message, records_from}
 
 module _ (own to : Address) (hops data1 : ℕ) (l : List ℕ) where
-  pub none : (k : ℕ) → recordsFrom own to hops data1 l 0 k ≡ []
-  unfolding recordsFrom
+  pub none : (k : ℕ) → records_from own to hops data1 l 0 k ≡ []
+  unfolding records_from
   none k = refl
 
-  pub more : (n k : ℕ) → 0 < n → recordsFrom own to hops data1 l n k ≡ recordMessage own to hops data1 l k ++ recordsFrom own to hops data1 l (pred n) (k + 1)
-  unfolding recordsFrom
+  pub more : (n k : ℕ) → 0 < n → records_from own to hops data1 l n k ≡ record_message own to hops data1 l k ++ records_from own to hops data1 l (pred n) (k + 1)
+  unfolding records_from
   more zero k h = absurd (omega arith)
   more (suc n) k h = refl
 
-  pub length-records : (n k : ℕ) → length (recordsFrom own to hops data1 l n k) ≡ 23 * n
-  unfolding recordsFrom
-  length-records zero k = refl
-  length-records (suc n) k = length-append (recordMessage own to hops data1 l k) (recordsFrom own to hops data1 l n (k + 1)) ∙ omega (arith, length-records n (k + 1))
+  pub length_records : (n k : ℕ) → length (records_from own to hops data1 l n k) ≡ 23 * n
+  unfolding records_from
+  length_records zero k = refl
+  length_records (suc n) k = length-append (record_message own to hops data1 l k) (records_from own to hops data1 l n (k + 1)) ∙ omega (arith, length_records n (k + 1))

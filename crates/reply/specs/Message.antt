@@ -6,22 +6,22 @@ use Rattle.reply.specs.declared.due.Head.{Head}
 use Rattle.reply.specs.declared.due.DataBytes.{DataBytes}
 
 -- the type bits and the extended bit
-abbrev pub typeBits : ReplyType → ℕ
-typeBits ReplyType.Ack = 0x20
-typeBits ReplyType.Nak = 0xa0
-typeBits ReplyType.CleanupAck = 0x60
-typeBits ReplyType.CleanupNak = 0xe0
-typeBits ReplyType.IdBroadcast = 0x80
-typeBits ReplyType.Data = 0x10
+abbrev pub type_bits : ReplyType → ℕ
+type_bits ReplyType.Ack = 0x20
+type_bits ReplyType.Nak = 0xa0
+type_bits ReplyType.CleanupAck = 0x60
+type_bits ReplyType.CleanupNak = 0xe0
+type_bits ReplyType.IdBroadcast = 0x80
+type_bits ReplyType.Data = 0x10
 
 -- fresh hops: the request's largest hop count both as hops left, bits 3 and 2, and as largest, bits 1 and 0
-abbrev pub replyFlags : ReplyType → ℕ → ℕ
-replyFlags type hops = typeBits type + 5 * (hops % 4)
+abbrev pub reply_flags : ReplyType → ℕ → ℕ
+reply_flags type hops = type_bits type + 5 * (hops % 4)
 
 -- From (3), To (3), flags, Command 1, Command 2
 abbrev pub standard : Address → Address → ReplyType → ℕ → ℕ → ℕ → List ℕ
 standard from to type hops command1 command2 =
-    from.high ∷ from.middle ∷ from.low ∷ to.high ∷ to.middle ∷ to.low ∷ replyFlags type hops ∷ command1 ∷ command2 ∷ []
+    from.high ∷ from.middle ∷ from.low ∷ to.high ∷ to.middle ∷ to.low ∷ reply_flags type hops ∷ command1 ∷ command2 ∷ []
 
 -- extended data: Command 2 is 00, then Data 1 to Data 14
 abbrev pub extended : Address → Address → ℕ → ℕ → List ℕ → List ℕ
@@ -31,6 +31,6 @@ abbrev pub head_of : Address → Head → List ℕ
 head_of own h = standard own h.to h.reply_type h.hops h.command1 h.command2
 
 -- data bytes by name, as they are sent
-abbrev pub dataBytes : DataBytes → List ℕ
-dataBytes d =
+abbrev pub data_bytes : DataBytes → List ℕ
+data_bytes d =
     d.d1 ∷ d.d2 ∷ d.d3 ∷ d.d4 ∷ d.d5 ∷ d.d6 ∷ d.d7 ∷ d.d8 ∷ d.d9 ∷ d.d10 ∷ d.d11 ∷ d.d12 ∷ d.d13 ∷ d.d14 ∷ []

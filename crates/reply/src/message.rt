@@ -1,20 +1,20 @@
 // The writer of one message, which gets the remaining part of the reply room ("Message bytes").
 ghost use Rattle.std.specs.Prelude.{◌≡◌, ◌≤◌};
-ghost use Rattle.basis.specs.Laid.{laidIfFits};
-ghost use Rattle.reply.specs.Message.{typeBits, replyFlags, standard, dataBytes, extended, head_of};
+ghost use Rattle.basis.specs.Laid.{laid_if_fits};
+ghost use Rattle.reply.specs.Message.{type_bits, reply_flags, standard, data_bytes, extended, head_of};
 
 use crate::due::{DataBytes, Head, ReplyType};
 use wire::address::Address;
 
 // Type and extended bit stay; the request's largest hop count is what is left of hops and what is largest (request 4).
 pub(crate) fn reply_flags(reply_type: ReplyType, hops: u8) -> u8
-    ensures { result ≡ replyFlags reply_type hops }
+    ensures { result ≡ reply_flags reply_type hops }
 {
     type_bits(reply_type) + 5 * (hops % 4)
 }
 
 fn type_bits(reply_type: ReplyType) -> u8
-    ensures { (result ≡ typeBits reply_type) × (result ≤ 0xe0) }
+    ensures { (result ≡ type_bits reply_type) × (result ≤ 0xe0) }
 {
     match reply_type {
         ReplyType::Ack => 0x20,
@@ -36,7 +36,7 @@ pub(crate) fn put_standard(
     command1: u8,
     command2: u8,
 )
-    ensures { room.new ≡ laidIfFits room.old (standard from to reply_type hops command1 command2) }
+    ensures { room.new ≡ laid_if_fits room.old (standard from to reply_type hops command1 command2) }
 {
     let flags = reply_flags(reply_type, hops);
     let bytes = [
@@ -55,7 +55,7 @@ pub(crate) fn put_standard(
 
 // The standard message that a reply begins with.
 pub(crate) fn put_head(room: &mut [u8], own: Address, head: Head)
-    ensures { room.new ≡ laidIfFits room.old (head_of own head) }
+    ensures { room.new ≡ laid_if_fits room.old (head_of own head) }
 {
     let reply_type = head.reply_type;
     let to = head.to;
@@ -79,7 +79,7 @@ pub(crate) fn put_extended(
     command1: u8,
     d: DataBytes,
 )
-    ensures { room.new ≡ laidIfFits room.old (extended from to hops command1 (dataBytes d)) }
+    ensures { room.new ≡ laid_if_fits room.old (extended from to hops command1 (data_bytes d)) }
 {
     let flags = reply_flags(ReplyType::Data, hops);
     let bytes = [

@@ -1,11 +1,11 @@
 // The records that Get Database sends ("Direct commands, extended").
 ghost use Rattle.std.specs.Prelude.{◌≡◌, ◌-◌, ◌*◌, ◌/◌, ◌%◌, ◌≤◌, ◌<◌, [], ◌∷◌, ◌++◌, length};
-ghost use Rattle.basis.specs.Laid.{laidIfFits};
+ghost use Rattle.basis.specs.Laid.{laid_if_fits};
 ghost use Rattle.basis.specs.Spell.{spell};
 ghost use Rattle.links.specs.Name.{name_of};
-ghost use Rattle.links.specs.Record.{records, recordAt};
+ghost use Rattle.links.specs.Record.{records, record_at};
 ghost use Rattle.reply.specs.Message.{extended};
-ghost use Rattle.reply.specs.Records.{limit, countSent, recordsFrom};
+ghost use Rattle.reply.specs.Records.{limit, count_sent, records_from};
 
 use crate::due::ReplyType;
 use crate::message::reply_flags;
@@ -16,7 +16,7 @@ use wire::address::Address;
 
 // How many records are sent from record `k` on, where `count` are asked for.
 pub(crate) fn count_sent(links: &[u8], k: usize, count: usize) -> usize
-    ensures { result ≡ countSent links.now k count }
+    ensures { result ≡ count_sent links.now k count }
 {
     up_to_mark(links, k, limit(links, k, count))
 }
@@ -39,7 +39,7 @@ fn limit(links: &[u8], k: usize, count: usize) -> usize
 // What tells the message of one record from that of another: its address, 00, the eight bytes, 00.
 fn record_data(links: &[u8], k: usize) -> [u8; 12]
     requires { k < records links.now }
-    ensures { result ≡ name_of k / 256 ∷ name_of k % 256 ∷ 0x00 ∷ (recordAt links.now k ++ (0x00 ∷ [])) }
+    ensures { result ≡ name_of k / 256 ∷ name_of k % 256 ∷ 0x00 ∷ (record_at links.now k ++ (0x00 ∷ [])) }
 {
     let name = name_of(k);
     let high = (name / 256) as u8;
@@ -74,8 +74,8 @@ fn laid_head(room: &[u8]) -> [u8; 11]
 // One record in the remaining part of the room.
 fn put_record(room: &mut [u8], head: [u8; 11], links: &[u8], k: usize)
     requires { k < records links.now }
-    ensures { room.new ≡ laidIfFits room.old
-        (spell 11 0 head ++ (name_of k / 256 ∷ name_of k % 256 ∷ 0x00 ∷ (recordAt links.now k ++ (0x00 ∷ [])))) }
+    ensures { room.new ≡ laid_if_fits room.old
+        (spell 11 0 head ++ (name_of k / 256 ∷ name_of k % 256 ∷ 0x00 ∷ (record_at links.now k ++ (0x00 ∷ [])))) }
 {
     let r = record_data(links, k);
     let bytes = [
@@ -98,7 +98,7 @@ pub(crate) fn put_records(
 )
     requires n_bound { n ≤ records links.now - k }
     requires n_in_bounds { 23 * n ≤ length room.old }
-    ensures { room.new ≡ laidIfFits room.old (recordsFrom own to hops data1 links.now n k) }
+    ensures { room.new ≡ laid_if_fits room.old (records_from own to hops data1 links.now n k) }
 {
     if n == 0 {
         return;

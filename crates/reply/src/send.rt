@@ -1,9 +1,9 @@
 // The whole reply: measured, and then laid into the lent room, each message directly after the one before it ("Message bytes").
 ghost use Rattle.std.specs.Prelude.{◌++◌};
 ghost use Rattle.reply.specs.declared.due.ReplyType.{ReplyType};
-ghost use Rattle.reply.specs.Message.{standard, extended, head_of, dataBytes};
-ghost use Rattle.reply.specs.Records.{sentRecords};
-ghost use Rattle.reply.specs.Reply.{replyOf};
+ghost use Rattle.reply.specs.Message.{standard, extended, head_of, data_bytes};
+ghost use Rattle.reply.specs.Records.{sent_records};
+ghost use Rattle.reply.specs.Reply.{reply_of};
 ghost use Rattle.reply.specs.Sending.{Sending};
 
 use crate::due::{DataBytes, Due, Head, ReplyType};
@@ -20,7 +20,7 @@ pub enum Sent {
 
 // What the module at address `own` sends.
 pub fn send(room: &mut [u8], own: Address, links: &[u8], due: Due) -> Sent
-    ensures { Sending (replyOf own links.now due) room.old result room.new }
+    ensures { Sending (reply_of own links.now due) room.old result room.new }
 {
     match due {
         Due::Nothing => Sent::Whole(0),
@@ -65,7 +65,7 @@ fn send_id(room: &mut [u8], own: Address, head: Head, id: Address, revision: u8)
 }
 
 fn send_properties(room: &mut [u8], own: Address, head: Head, d: DataBytes) -> Sent
-    ensures { Sending (head_of own head ++ extended own head.to head.hops 0x2e (dataBytes d)) room.old result room.new }
+    ensures { Sending (head_of own head ++ extended own head.to head.hops 0x2e (data_bytes d)) room.old result room.new }
 {
     if room.len() < 32 {
         return Sent::Short;
@@ -86,7 +86,7 @@ fn send_records(
     k: usize,
     count: usize,
 ) -> Sent
-    ensures { Sending (head_of own head ++ sentRecords own head.to head.hops data1 links.now k count)
+    ensures { Sending (head_of own head ++ sent_records own head.to head.hops data1 links.now k count)
         room.old result room.new }
 {
     let n = count_sent(links, k, count);

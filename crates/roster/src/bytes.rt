@@ -1,7 +1,7 @@
 // Words that are bytes, as in `00 10 3A`.
 ghost use Rattle.std.specs.Prelude.{◌≡◌, true, ◌≤◌, length};
-ghost use Rattle.roster.specs.Words.{wordsBehind};
-ghost use Rattle.roster.specs.Bytes.{digitOf, is_byte, byte_of, noBytes, bytes_of};
+ghost use Rattle.roster.specs.Words.{words_behind};
+ghost use Rattle.roster.specs.Bytes.{digit_of, is_byte, byte_of, no_bytes, bytes_of};
 
 use crate::words::{word_end, word_start};
 
@@ -15,7 +15,7 @@ pub(crate) struct Bytes {
 // All words from a place on; no line has more than seven bytes.
 pub(crate) fn bytes_behind(line: &[u8], from: usize) -> Bytes
     requires { from ≤ length line.now }
-    ensures { result ≡ bytes_of (wordsBehind line.now from) }
+    ensures { result ≡ bytes_of (words_behind line.now from) }
 {
     let mut bytes: [u8; 7] = [0; 7];
     let mut n: usize = 0;
@@ -43,7 +43,7 @@ pub(crate) fn bytes_behind(line: &[u8], from: usize) -> Bytes
 }
 
 fn no_bytes() -> Bytes
-    ensures { result ≡ noBytes }
+    ensures { result ≡ no_bytes }
 {
     Bytes {
         bytes: [0; 7],
@@ -69,7 +69,7 @@ fn byte_of(word: &[u8]) -> u8
 
 // 16 where it is no digit.
 fn digit_of(x: u8) -> u8
-    ensures { result ≡ digitOf x }
+    ensures { result ≡ digit_of x }
 {
     match x {
         b'0'..=b'9' => x - b'0',

@@ -1,6 +1,6 @@
 // A line of the row: a kind, and an address of three bytes or an identity of seven, as in `dimmer 00 10 3A # her name`; or nothing.
 ghost use Rattle.std.specs.Prelude.{◌≡◌};
-ghost use Rattle.roster.specs.Line.{addressIn, identityIn, nobody, seatOf, emptyLine, badLine, lineAs, line_of};
+ghost use Rattle.roster.specs.Line.{address_in, identity_in, nobody, seat_of, empty_line, bad_line, line_as, line_of};
 
 use crate::bytes::{Bytes, bytes_behind};
 use crate::seat::{fresh_as, fresh_at};
@@ -43,7 +43,7 @@ pub fn line_of(line: &[u8]) -> Line
 
 // By how many bytes there are.
 fn line_as(kind: Kind, b: Bytes) -> Line
-    ensures { result ≡ lineAs kind b }
+    ensures { result ≡ line_as kind b }
 {
     let bytes = b.bytes;
     let n = b.count;
@@ -55,7 +55,7 @@ fn line_as(kind: Kind, b: Bytes) -> Line
 }
 
 fn address_in(b: [u8; 7]) -> Address
-    ensures { result ≡ addressIn b }
+    ensures { result ≡ address_in b }
 {
     Address {
         high: b[0],
@@ -65,7 +65,7 @@ fn address_in(b: [u8; 7]) -> Address
 }
 
 fn identity_in(b: [u8; 7]) -> Identity
-    ensures { result ≡ identityIn b }
+    ensures { result ≡ identity_in b }
 {
     let a = address_in(b);
     Identity {
@@ -78,7 +78,7 @@ fn identity_in(b: [u8; 7]) -> Identity
 }
 
 fn seat_of(m: Module) -> Line
-    ensures { result ≡ seatOf m }
+    ensures { result ≡ seat_of m }
 {
     Line {
         reading: Reading::Seat,
@@ -87,7 +87,7 @@ fn seat_of(m: Module) -> Line
 }
 
 fn empty_line() -> Line
-    ensures { result ≡ emptyLine }
+    ensures { result ≡ empty_line }
 {
     let m = nobody();
     Line {
@@ -97,7 +97,7 @@ fn empty_line() -> Line
 }
 
 fn bad_line() -> Line
-    ensures { result ≡ badLine }
+    ensures { result ≡ bad_line }
 {
     let m = nobody();
     Line {

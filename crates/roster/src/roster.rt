@@ -1,6 +1,6 @@
 // The row of a class, line after line.
 ghost use Rattle.std.specs.Prelude.{◌≡◌, ◌-◌, ◌^◌, ◌≤◌, ◌<◌, length};
-ghost use Rattle.roster.specs.Roster.{textStart, lineEnd, lineNext, emptyRoster, withSeat, oneMore, badAfter, refused, withLine, rosterOf};
+ghost use Rattle.roster.specs.Roster.{text_start, line_end, line_next, empty_roster, with_seat, one_more, bad_after, refused, with_line, roster_of};
 
 use crate::line::{Line, Reading, line_of, nobody};
 use module::state::Module;
@@ -16,7 +16,7 @@ pub struct Roster {
 }
 
 pub fn roster_of(text: &[u8]) -> Roster
-    ensures { result ≡ rosterOf text.now }
+    ensures { result ≡ roster_of text.now }
 {
     let mut r = empty_roster();
     let mut at = text_start(text);
@@ -32,7 +32,7 @@ pub fn roster_of(text: &[u8]) -> Roster
 }
 
 fn empty_roster() -> Roster
-    ensures { result ≡ emptyRoster }
+    ensures { result ≡ empty_roster }
 {
     let blank = nobody();
     Roster {
@@ -44,7 +44,7 @@ fn empty_roster() -> Roster
 
 // Behind the byte order mark that some editors write first.
 fn text_start(text: &[u8]) -> usize
-    ensures value { result ≡ textStart text.now }
+    ensures value { result ≡ text_start text.now }
     ensures upper_bound { result ≤ length text.now }
 {
     if text.len() < 3 {
@@ -60,7 +60,7 @@ fn text_start(text: &[u8]) -> usize
 // A line ends before 0A, or where the text does.
 fn line_end(text: &[u8], at: usize) -> usize
     requires { at ≤ length text.now }
-    ensures { result ≡ lineEnd text.now at }
+    ensures { result ≡ line_end text.now at }
 {
     let mut k = at;
     while k < text.len() {
@@ -73,7 +73,7 @@ fn line_end(text: &[u8], at: usize) -> usize
 }
 
 fn line_next(text: &[u8], end: usize) -> usize
-    ensures { result ≡ lineNext text.now end }
+    ensures { result ≡ line_next text.now end }
 {
     if end < text.len() {
         end + 1
@@ -84,7 +84,7 @@ fn line_next(text: &[u8], end: usize) -> usize
 
 fn with_line(r: Roster, number: usize, line: Line) -> Roster
     requires { r.count < 2 ^ 64 - 1 }
-    ensures { result ≡ withLine r number line }
+    ensures { result ≡ with_line r number line }
 {
     let m = line.module;
     let reading = line.reading;
@@ -98,7 +98,7 @@ fn with_line(r: Roster, number: usize, line: Line) -> Roster
 // The modules are counted on, and none behind the sixteenth has a place.
 fn one_more(r: Roster, m: Module) -> Roster
     requires { r.count < 2 ^ 64 - 1 }
-    ensures { result ≡ oneMore r m }
+    ensures { result ≡ one_more r m }
 {
     let row = r.row;
     let after = with_seat(row, r.count, m);
@@ -110,7 +110,7 @@ fn one_more(r: Roster, m: Module) -> Roster
 }
 
 fn with_seat(row: [Module; 16], i: usize, m: Module) -> [Module; 16]
-    ensures { result ≡ withSeat row i m }
+    ensures { result ≡ with_seat row i m }
 {
     let mut after = row;
     if i < 16 {
@@ -131,7 +131,7 @@ fn refused(r: Roster, number: usize) -> Roster
 }
 
 fn bad_after(bad: usize, number: usize) -> usize
-    ensures { result ≡ badAfter bad number }
+    ensures { result ≡ bad_after bad number }
 {
     if bad == 0 { number } else { bad }
 }

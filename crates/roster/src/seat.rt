@@ -1,6 +1,6 @@
 // A fresh module of a kind: as the bench has it, but for its address, or with an identity of its own ("The program").
 ghost use Rattle.std.specs.Prelude.{◌≡◌};
-ghost use Rattle.roster.specs.Seat.{identityOf, freshAs, freshAt, benchOf};
+ghost use Rattle.roster.specs.Seat.{identity_of, fresh_as, fresh_at, bench_of};
 
 use crate::word::Kind;
 use module::state::{Identity, Module};
@@ -8,7 +8,7 @@ use wire::address::Address;
 
 // A module alone, at one address whatever its kind.
 pub fn bench_of(kind: Kind) -> Module
-    ensures { result ≡ benchOf kind }
+    ensures { result ≡ bench_of kind }
 {
     let own = Address {
         high: 0x00,
@@ -19,7 +19,7 @@ pub fn bench_of(kind: Kind) -> Module
 }
 
 pub fn fresh_at(kind: Kind, a: Address) -> Module
-    ensures { result ≡ freshAt kind a }
+    ensures { result ≡ fresh_at kind a }
 {
     match kind {
         Kind::Dimmer => Module::fresh_dimmer(identity(a, 0x01, 0x0f, 0xc1)),
@@ -28,7 +28,7 @@ pub fn fresh_at(kind: Kind, a: Address) -> Module
 }
 
 pub fn fresh_as(kind: Kind, identity: Identity) -> Module
-    ensures { result ≡ freshAs kind identity }
+    ensures { result ≡ fresh_as kind identity }
 {
     match kind {
         Kind::Dimmer => Module::fresh_dimmer(identity),
@@ -37,7 +37,7 @@ pub fn fresh_as(kind: Kind, identity: Identity) -> Module
 }
 
 fn identity(a: Address, category: u8, subcategory: u8, firmware: u8) -> Identity
-    ensures { result ≡ identityOf a category subcategory firmware }
+    ensures { result ≡ identity_of a category subcategory firmware }
 {
     Identity {
         address: a,

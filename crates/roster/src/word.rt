@@ -1,6 +1,6 @@
 // The words that name a kind of module.
 ghost use Rattle.std.specs.Prelude.{◌≡◌};
-ghost use Rattle.roster.specs.Word.{isSame, named, smallOf, smallLetters};
+ghost use Rattle.roster.specs.Word.{is_same, named, small_of, small_letters};
 
 #[derive(Drop)]
 pub enum Kind {
@@ -27,7 +27,7 @@ pub fn named(word: &[u8]) -> Meaning
 }
 
 pub fn is_same(a: &[u8], b: &[u8]) -> bool
-    ensures { result ≡ isSame a.now b.now }
+    ensures { result ≡ is_same a.now b.now }
 {
     if a.len() != b.len() {
         return false;
@@ -44,7 +44,7 @@ pub fn is_same(a: &[u8], b: &[u8]) -> bool
 
 // In a file a pupil may write `Dimmer`.
 pub(crate) fn named_any(word: &[u8]) -> Meaning
-    ensures { result ≡ named (smallLetters word.now) }
+    ensures { result ≡ named (small_letters word.now) }
 {
     if is_alike(word, b"dimmer") {
         return Meaning::Kind(Kind::Dimmer);
@@ -57,7 +57,7 @@ pub(crate) fn named_any(word: &[u8]) -> Meaning
 
 // Capital letters count as small ones.
 fn is_alike(a: &[u8], b: &[u8]) -> bool
-    ensures { result ≡ isSame (smallLetters a.now) b.now }
+    ensures { result ≡ is_same (small_letters a.now) b.now }
 {
     if a.len() != b.len() {
         return false;
@@ -73,7 +73,7 @@ fn is_alike(a: &[u8], b: &[u8]) -> bool
 }
 
 fn small_of(x: u8) -> u8
-    ensures { result ≡ smallOf x }
+    ensures { result ≡ small_of x }
 {
     match x {
         b'A'..=b'Z' => x + 0x20,

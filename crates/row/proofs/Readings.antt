@@ -8,22 +8,22 @@ use borrow.Author.Tests.{eqb-true, not-false, le-ltb}
 use Rattle.basis.specs.Choice.{choose}
 use Rattle.basis.proofs.Tests.{clash, neither}
 use Rattle.wire.specs.declared.address.Address.{Address}
-use Rattle.wire.specs.Bytes.{toOf, named_in, isExtended, is_whole}
-use Rattle.wire.specs.Kinds.{type_of, isDirect, isCleanup, isBroadcast, isUnheard, isAstray, is_foreign}
-use Rattle.wire.specs.Checksum.{isSumRight, isExempt, isSumWrong}
+use Rattle.wire.specs.Bytes.{to_of, named_in, is_extended, is_whole}
+use Rattle.wire.specs.Kinds.{type_of, is_direct, is_cleanup, is_broadcast, is_unheard, is_astray, is_foreign}
+use Rattle.wire.specs.Checksum.{is_sum_right, is_exempt, is_sum_wrong}
 use Rattle.wire.specs.Reading.{read_of}
 use Rattle.wire.proofs.Whole.{enough}
 use Rattle.row.proofs.Named.{itself}
 
 module _ (s : List ℕ) where
   -- a whole message says whom it is for
-  pub says-to : is_whole s ≡ true → named_in s ≡ toOf s
+  pub says_to : is_whole s ≡ true → named_in s ≡ to_of s
   unfolding choose
-  says-to h = rw (le-ltb (length s) 9 (enough s h))
+  says_to h = rw (le-ltb (length s) 9 (enough s h))
 
   -- and is not astray where it is for
-  pub only-unheard : (a : Address) → a ≡ toOf s → is_foreign s a ≡ isUnheard s
-  only-unheard a e = rw (e, itself (toOf s)) (drops (isUnheard s) (isDirect s || isCleanup s))
+  pub only_unheard : (a : Address) → a ≡ to_of s → is_foreign s a ≡ is_unheard s
+  only_unheard a e = rw (e, itself (to_of s)) (drops (is_unheard s) (is_direct s || is_cleanup s))
     where
       drops : (u d : Bool) → (u || (d && not true)) ≡ u
       drops true d = refl
@@ -31,37 +31,37 @@ module _ (s : List ℕ) where
       drops false false = refl
 
   -- a broadcast is no other kind, is not extended, and is read alike by all
-  module _ (b : isBroadcast s ≡ true) where
+  module _ (b : is_broadcast s ≡ true) where
     six : type_of s ≡ 6
     six = eqb-true (type_of s) 6 b
 
-    pub not-direct : isDirect s ≡ false
-    not-direct = rw six
+    pub not_direct : is_direct s ≡ false
+    not_direct = rw six
 
-    pub not-cleanup : isCleanup s ≡ false
+    pub not-cleanup : is_cleanup s ≡ false
     not-cleanup = rw six
 
-    pub not-astray : (a : Address) → isAstray s a ≡ false
+    pub not-astray : (a : Address) → is_astray s a ≡ false
     not-astray a = rw six
 
     pub read_alike : (a c : Address) → read_of s a ≡ read_of s c
     unfolding read_of
     read_alike a c = rw (not-astray a, not-astray c)
 
-    pub not-summed : isUnheard s ≡ false → isSumWrong s ≡ false
-    not-summed u = go (isExtended s) (neither (not (isDirect s || isCleanup s || isBroadcast s)) (isExtended s && not (isDirect s)) u).1
+    pub not-summed : is_unheard s ≡ false → is_sum_wrong s ≡ false
+    not-summed u = go (is_extended s) (neither (not (is_direct s || is_cleanup s || is_broadcast s)) (is_extended s && not (is_direct s)) u).1
       where
-        go : (e : Bool) → e && not (isDirect s) ≡ false → e && not (isExempt s) && not (isSumRight s) ≡ false
+        go : (e : Bool) → e && not (is_direct s) ≡ false → e && not (is_exempt s) && not (is_sum_right s) ≡ false
         go false p = refl
-        go true p = clash (not-false (isDirect s) p) not-direct
+        go true p = clash (not-false (is_direct s) p) not_direct
 
   -- what is heard and is no broadcast is direct or a cleanup
-  pub some-kind : isUnheard s ≡ false → isBroadcast s ≡ false → isDirect s ≡ false → isCleanup s ≡ true
-  some-kind u b d = go (isCleanup s) refl
+  pub some_kind : is_unheard s ≡ false → is_broadcast s ≡ false → is_direct s ≡ false → is_cleanup s ≡ true
+  some_kind u b d = go (is_cleanup s) refl
     where
-      heard : isDirect s || isCleanup s || isBroadcast s ≡ true
-      heard = not-false (isDirect s || isCleanup s || isBroadcast s) (neither (not (isDirect s || isCleanup s || isBroadcast s)) (isExtended s && not (isDirect s)) u).0
+      heard : is_direct s || is_cleanup s || is_broadcast s ≡ true
+      heard = not-false (is_direct s || is_cleanup s || is_broadcast s) (neither (not (is_direct s || is_cleanup s || is_broadcast s)) (is_extended s && not (is_direct s)) u).0
 
-      go : (c : Bool) → isCleanup s ≡ c → isCleanup s ≡ true
+      go : (c : Bool) → is_cleanup s ≡ c → is_cleanup s ≡ true
       go true q = q
       go false q = clash heard (rw (d, q, b))

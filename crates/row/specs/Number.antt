@@ -3,8 +3,8 @@ use Rattle.std.specs.Prelude.{ℕ}
 use Rattle.results.specs.Number.{number_of}
 use Rattle.row.specs.declared.outcome.ClassOutcome.{ClassOutcome}
 
-abbrev pub classNumberOf : ClassOutcome → ℕ
-classNumberOf (ClassOutcome.Single outcome) = number_of outcome
-classNumberOf ClassOutcome.Doubled = 9
-classNumberOf ClassOutcome.NoSeat = 10
-classNumberOf ClassOutcome.Unfit = 11
+abbrev pub class_number_of : ClassOutcome → ℕ
+class_number_of (ClassOutcome.Single outcome) = number_of outcome
+class_number_of ClassOutcome.Doubled = 9
+class_number_of ClassOutcome.NoSeat = 10
+class_number_of ClassOutcome.Unfit = 11

@@ -6,21 +6,21 @@ use Rattle.wire.specs.declared.address.Address.{Address}
 use Rattle.wire.specs.Bytes.{equals}
 
 -- as many bytes as fit link memory has
-abbrev pub isShareFit : ℕ → Bool
-isShareFit w = within 1 2048 w && eqb (w % 8) 0
+abbrev pub is_share_fit : ℕ → Bool
+is_share_fit w = within 1 2048 w && eqb (w % 8) 0
 
 -- one to sixteen seats, and equal shares that are fit: result 11 does not apply
-abbrev pub isRowFit : ℕ → ℕ → Bool
-isRowFit n bytes = (within 1 16 n && eqb (bytes % n) 0) && isShareFit (bytes / n)
+abbrev pub is_row_fit : ℕ → ℕ → Bool
+is_row_fit n bytes = (within 1 16 n && eqb (bytes % n) 0) && is_share_fit (bytes / n)
 
 -- of n seats the first with that name; n where there is none
-abbrev pub seatNamed : (ℕ → Address) → ℕ → Address → ℕ
-seatNamed name n a = first (λ i. equals a (name i)) n
+abbrev pub seat_named : (ℕ → Address) → ℕ → Address → ℕ
+seat_named name n a = first (λ i. equals a (name i)) n
 
 -- a seat before it has the name of seat i
 abbrev pub is_taken : (ℕ → Address) → ℕ → Bool
-is_taken name i = ltb (seatNamed name i (name i)) i
+is_taken name i = ltb (seat_named name i (name i)) i
 
 -- two of n seats have one name: result 9
-abbrev pub isDoubled : (ℕ → Address) → ℕ → Bool
-isDoubled name n = ltb (first (is_taken name) n) n
+abbrev pub is_doubled : (ℕ → Address) → ℕ → Bool
+is_doubled name n = ltb (first (is_taken name) n) n

@@ -1,15 +1,15 @@
 // The addresses of the seats, as far as they are noted.
 ghost use Rattle.std.specs.Prelude.{◌≡◌, ◌≤◌, ◌<◌};
 ghost use Rattle.wire.specs.Bytes.{equals};
-ghost use Rattle.row.specs.Row.{seatNamed, isDoubled};
-ghost use Rattle.row.specs.Round.{nameIn};
+ghost use Rattle.row.specs.Row.{seat_named, is_doubled};
+ghost use Rattle.row.specs.Round.{name_in};
 
 use wire::address::Address;
 
 // Of the first n seats the first with that address; n where there is none.
 pub(crate) fn seat_named(names: [Address; 16], n: usize, a: Address) -> usize
     requires { n ≤ 16 }
-    ensures { result ≡ seatNamed (nameIn names) n a }
+    ensures { result ≡ seat_named (name_in names) n a }
 {
     let mut i: usize = 0;
     loop {
@@ -36,7 +36,7 @@ fn is_same(a: Address, b: Address) -> bool
 // Two of the first n seats have one address: result 9. Addresses are compared only where their low byte was met before.
 pub(crate) fn is_doubled(names: [Address; 16], n: usize) -> bool
     requires { n ≤ 16 }
-    ensures { result ≡ isDoubled (nameIn names) n }
+    ensures { result ≡ is_doubled (name_in names) n }
 {
     let mut met = [false; 256];
     let mut i: usize = 0;

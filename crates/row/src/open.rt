@@ -1,7 +1,7 @@
 // Before the first turn: whether the row can be served at all, and whom a message is for as far as its reading tells.
 ghost use Rattle.std.specs.Prelude.{◌≡◌};
-ghost use Rattle.row.specs.Row.{isShareFit, isRowFit};
-ghost use Rattle.row.specs.Round.{scopeOfKind, scope_of, task_of, begun, opened};
+ghost use Rattle.row.specs.Row.{is_share_fit, is_row_fit};
+ghost use Rattle.row.specs.Round.{scope_of_kind, scope_of, task_of, begun, opened};
 
 use crate::outcome::ClassOutcome;
 use crate::progress::{Progress, Round, Scope, Task, silent};
@@ -20,7 +20,7 @@ fn scope_of(reading: Reading) -> Scope
 }
 
 fn scope_of_kind(kind: MessageKind) -> Scope
-    ensures { result ≡ scopeOfKind kind }
+    ensures { result ≡ scope_of_kind kind }
 {
     match kind {
         MessageKind::Direct(_, _) => Scope::One,
@@ -54,7 +54,7 @@ fn task_of(seats: usize, share: usize, heard: Message) -> Task
 
 // One to sixteen seats, and equal shares that are fit: result 11 does not apply.
 fn is_row_fit(seats: usize, bytes: usize) -> bool
-    ensures { result ≡ isRowFit seats bytes }
+    ensures { result ≡ is_row_fit seats bytes }
 {
     if seats == 0 {
         return false;
@@ -64,7 +64,7 @@ fn is_row_fit(seats: usize, bytes: usize) -> bool
 
 // As link memory is.
 fn is_share_fit(share: usize) -> bool
-    ensures { result ≡ isShareFit share }
+    ensures { result ≡ is_share_fit share }
 {
     (1 <= share) & (share <= 2048) & (share % 8 == 0)
 }

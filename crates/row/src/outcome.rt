@@ -1,6 +1,6 @@
 // What became of a message to the class: a module's own outcome, or one of the row's.
 ghost use Rattle.std.specs.Prelude.{◌≡◌};
-ghost use Rattle.row.specs.Number.{classNumberOf};
+ghost use Rattle.row.specs.Number.{class_number_of};
 
 use results::{Outcome, number};
 
@@ -14,7 +14,7 @@ pub enum ClassOutcome {
 
 // The paper's number.
 pub fn class_number(outcome: ClassOutcome) -> u8
-    ensures { result ≡ classNumberOf outcome }
+    ensures { result ≡ class_number_of outcome }
 {
     match outcome {
         ClassOutcome::Single(single) => number(single),

@@ -1,6 +1,6 @@
 // After the first round all addresses are known: refusals 9, 1, 3 and 10, in this order, or who is to be served.
 ghost use Rattle.std.specs.Prelude.{◌≡◌, ◌≤◌};
-ghost use Rattle.row.specs.Round.{secondRound, addressed, byScope, settled, noticed, settledIfFew};
+ghost use Rattle.row.specs.Round.{second_round, addressed, by_scope, settled, noticed, settled_if_few};
 
 use crate::names::{is_doubled, seat_named};
 use crate::open::open;
@@ -27,7 +27,7 @@ pub fn noticed(names: [Address; 16], seats: usize, bytes: usize, heard: Message)
 
 // For whoever has noted the addresses one by one.
 pub fn settle(t: Progress) -> Progress
-    ensures { result ≡ settledIfFew t }
+    ensures { result ≡ settled_if_few t }
 {
     if 16 < t.task.seats {
         return ended(t, silent(ClassOutcome::Unfit));
@@ -50,7 +50,7 @@ fn settled(t: Progress) -> Progress
 
 fn by_scope(t: Progress, scope: Scope) -> Progress
     requires { t.task.seats ≤ 16 }
-    ensures { result ≡ byScope t scope }
+    ensures { result ≡ by_scope t scope }
 {
     match scope {
         Scope::Ill => ended(t, silent(ClassOutcome::Single(Outcome::BadLength))),
@@ -75,7 +75,7 @@ fn addressed(t: Progress) -> Progress
 
 // Nobody has acted yet.
 fn second_round(t: Progress, seat: usize, round: Round, whom: Whom) -> Progress
-    ensures { result ≡ secondRound t seat round whom }
+    ensures { result ≡ second_round t seat round whom }
 {
     let none = silent(ClassOutcome::Single(Outcome::Unconcerned));
     let answer = ClassAnswer { whom: whom, ..none };

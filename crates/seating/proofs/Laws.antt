@@ -10,17 +10,17 @@ use Rattle.results.specs.Number.{number_of}
 use Rattle.module.specs.declared.state.Module.{Module}
 use Rattle.device.specs.Step.{step_of}
 use Rattle.device.specs.Run.{Call, Said}
-use Rattle.device.proofs.Lent.{room-alike}
+use Rattle.device.proofs.Lent.{room_alike}
 use Rattle.device.proofs.Replied.{replied}
 use Rattle.row.specs.declared.outcome.ClassOutcome.{ClassOutcome}
 use Rattle.row.specs.declared.progress.Whom.{Whom}
-use Rattle.row.specs.Number.{classNumberOf}
+use Rattle.row.specs.Number.{class_number_of}
 use Rattle.class.specs.Class.{ClassStep}
-use Rattle.class.specs.Seats.{seatsOf}
-use Rattle.class.proofs.Lent.{ClassSaid, class-alike, class-replied}
+use Rattle.class.specs.Seats.{seats_of}
+use Rattle.class.proofs.Lent.{ClassSaid, class_alike, class_replied}
 use Rattle.seating.specs.declared.heed.Seating.{Seating}
-use Rattle.seating.specs.Heed.{Heed, firstIn, aloneOf, byClass, classHeed, seatedWith, heedOf}
-use Rattle.seating.specs.Sat.{Sat, Told, heedIn, satBy, heedAll, satAfter, toldBy}
+use Rattle.seating.specs.Heed.{Heed, first_in, alone_of, by_class, class_heed, seated_with, heed_of}
+use Rattle.seating.specs.Sat.{Sat, Told, heed_in, sat_by, heed_all, sat_after, told_by}
 
 -- numbers are 0 to 11
 single : (o : Outcome) → number_of o ≤ 11
@@ -34,11 +34,11 @@ single Outcome.NotLinked = omega arith
 single Outcome.Unlisted = omega arith
 single Outcome.Unconcerned = omega arith
 
-of-class : (o : ClassOutcome) → classNumberOf o ≤ 11
-of-class (ClassOutcome.Single o) = single o
-of-class ClassOutcome.Doubled = omega arith
-of-class ClassOutcome.NoSeat = omega arith
-of-class ClassOutcome.Unfit = omega arith
+of_class : (o : ClassOutcome) → class_number_of o ≤ 11
+of_class (ClassOutcome.Single o) = single o
+of_class ClassOutcome.Doubled = omega arith
+of_class ClassOutcome.NoSeat = omega arith
+of_class ClassOutcome.Unfit = omega arith
 
 -- the reply stands at the start of the room
 pub record HeedReplied (room : List ℕ) (t : Heed) : Type 0 where
@@ -47,15 +47,15 @@ pub record HeedReplied (room : List ℕ) (t : Heed) : Type 0 where
 
 -- what two messages come to is the same, their rooms aside
 pub record HeedAlike (s : Sat) (t u : Heed) : Type 0 where
-  pub same : toldBy s t ≡ toldBy s u
+  pub same : told_by s t ≡ told_by s u
 
 module _ (s : Seating) (l message : List ℕ) where
-  pub numbered : (room : List ℕ) → (heedOf s l message room).number ≤ 11
-  unfolding heedOf
+  pub numbered : (room : List ℕ) → (heed_of s l message room).number ≤ 11
+  unfolding heed_of
   numbered room =
-      either (λ (t : Heed). t.number ≤ 11) _ {x = classHeed s l message room} {y = aloneOf s l message room}
-      (of-class (seatsOf s.row s.count l message room).outcome)
-      (single (step_of (firstIn s.row) l message room).outcome)
+      either (λ (t : Heed). t.number ≤ 11) _ {x = class_heed s l message room} {y = alone_of s l message room}
+      (of_class (seats_of s.row s.count l message room).outcome)
+      (single (step_of (first_in s.row) l message room).outcome)
 
   abbrev row : List Module
   row = take s.count s.row
@@ -63,59 +63,59 @@ module _ (s : Seating) (l message : List ℕ) where
   abbrev sat : Sat
   sat = record { seating = s; links = l }
 
-  class-replies : (room : List ℕ) → HeedReplied room (classHeed s l message room)
-  class-replies room =
-      let own = class-replied row l message room in
-      either (λ (t : ClassStep). HeedReplied room (byClass t)) _ (record { fits = omega arith; start = refl }) (record { fits = own.fits; start = own.start })
+  class_replies : (room : List ℕ) → HeedReplied room (class_heed s l message room)
+  class_replies room =
+      let own = class_replied row l message room in
+      either (λ (t : ClassStep). HeedReplied room (by_class t)) _ (record { fits = omega arith; start = refl }) (record { fits = own.fits; start = own.start })
 
-  alone-replies : (room : List ℕ) → HeedReplied room (aloneOf s l message room)
-  alone-replies room = let own = replied (firstIn s.row) l message room in record { fits = own.fits; start = own.start }
+  alone_replies : (room : List ℕ) → HeedReplied room (alone_of s l message room)
+  alone_replies room = let own = replied (first_in s.row) l message room in record { fits = own.fits; start = own.start }
 
-  pub heed-replied : (room : List ℕ) → HeedReplied room (heedOf s l message room)
-  unfolding heedOf
-  heed-replied room = either (HeedReplied room) _ (class-replies room) (alone-replies room)
+  pub heed_replied : (room : List ℕ) → HeedReplied room (heed_of s l message room)
+  unfolding heed_of
+  heed_replied room = either (HeedReplied room) _ (class_replies room) (alone_replies room)
 
   -- a room matters by its length alone
-  abbrev fromSaid : Said → Told
-  fromSaid x =
+  abbrev from_said : Said → Told
+  from_said x =
       record {
         number = number_of x.outcome;
         reply = x.reply;
         read = x.read;
         whom = Whom.Seat 0;
-        left = record { seating = seatedWith s (set s.row 0 x.left.device); links = x.left.links };
+        left = record { seating = seated_with s (set s.row 0 x.left.device); links = x.left.links };
       }
 
   abbrev from_class : ClassSaid → Told
   from_class x =
       record {
-        number = classNumberOf x.outcome;
+        number = class_number_of x.outcome;
         reply = x.reply;
         read = x.read;
         whom = x.whom;
-        left = record { seating = seatedWith s (x.row ++ drop s.count s.row); links = x.links };
+        left = record { seating = seated_with s (x.row ++ drop s.count s.row); links = x.links };
       }
 
   module _ (room other : List ℕ) (e : length room ≡ length other) where
-    class_same : HeedAlike sat (classHeed s l message room) (classHeed s l message other)
+    class_same : HeedAlike sat (class_heed s l message room) (class_heed s l message other)
     class_same =
-        beside (λ (t u : ClassStep). HeedAlike sat (byClass t) (byClass u)) _ (record { same = refl })
-        (record { same = ap from_class (class-alike row l message room other e).same })
+        beside (λ (t u : ClassStep). HeedAlike sat (by_class t) (by_class u)) _ (record { same = refl })
+        (record { same = ap from_class (class_alike row l message room other e).same })
 
-    alone-same : HeedAlike sat (aloneOf s l message room) (aloneOf s l message other)
-    alone-same = record { same = ap fromSaid (room-alike (record { device = firstIn s.row; links = l }) message room other e) }
+    alone-same : HeedAlike sat (alone_of s l message room) (alone_of s l message other)
+    alone-same = record { same = ap from_said (room_alike (record { device = first_in s.row; links = l }) message room other e) }
 
-    pub heed-alike : toldBy sat (heedOf s l message room) ≡ toldBy sat (heedOf s l message other)
-    unfolding heedOf
+    pub heed-alike : told_by sat (heed_of s l message room) ≡ told_by sat (heed_of s l message other)
+    unfolding heed_of
     heed-alike = (beside (HeedAlike sat) _ class_same alone-same).same
 
 -- calls in two parts
-pub heed-parts : (s : Sat) (first second : List Call) → heedAll s (first ++ second) ≡ heedAll s first ++ heedAll (satAfter s first) second
-unfolding heedAll satAfter
-heed-parts s [] second = refl
-heed-parts s (c ∷ first) second = ap (λ (z : List Heed). heedIn s c ∷ z) (heed-parts (satBy s (heedIn s c)) first second)
+pub heed_parts : (s : Sat) (first second : List Call) → heed_all s (first ++ second) ≡ heed_all s first ++ heed_all (sat_after s first) second
+unfolding heed_all sat_after
+heed_parts s [] second = refl
+heed_parts s (c ∷ first) second = ap (λ (z : List Heed). heed_in s c ∷ z) (heed_parts (sat_by s (heed_in s c)) first second)
 
-pub sat-parts : (s : Sat) (first second : List Call) → satAfter s (first ++ second) ≡ satAfter (satAfter s first) second
-unfolding satAfter
+pub sat-parts : (s : Sat) (first second : List Call) → sat_after s (first ++ second) ≡ sat_after (sat_after s first) second
+unfolding sat_after
 sat-parts s [] second = refl
-sat-parts s (c ∷ first) second = sat-parts (satBy s (heedIn s c)) first second
+sat-parts s (c ∷ first) second = sat-parts (sat_by s (heed_in s c)) first second

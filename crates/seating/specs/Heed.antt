@@ -1,15 +1,15 @@
 -- One message to whoever sits there: one module alone, in the first place, or a class in the first places.
 use Rattle.std.specs.Prelude.{ℕ, ◌≡◌, List, length, get_or, set}
 use Rattle.basis.specs.Choice.{choose}
-use Rattle.wire.specs.Bytes.{noName}
+use Rattle.wire.specs.Bytes.{no_name}
 use Rattle.results.specs.Number.{number_of}
 use Rattle.load.specs.declared.state.Load.{Load}
 use Rattle.module.specs.declared.state.Module.{Module}
 use Rattle.device.specs.Step.{Step, step_of}
 use Rattle.row.specs.declared.progress.Whom.{Whom}
-use Rattle.row.specs.Number.{classNumberOf}
+use Rattle.row.specs.Number.{class_number_of}
 use Rattle.class.specs.Class.{ClassStep}
-use Rattle.class.specs.Seats.{seatsOf}
+use Rattle.class.specs.Seats.{seats_of}
 use Rattle.seating.specs.declared.heed.Seating.{Seating}
 use Rattle.seating.specs.declared.heed.Heeded.{Heeded}
 
@@ -27,7 +27,7 @@ pub record Heed : Type 0 where
 abbrev pub blank : Module
 blank =
     record {
-      identity = record { address = noName; category = 0; subcategory = 0; firmware = 0; revision = 0 };
+      identity = record { address = no_name; category = 0; subcategory = 0; firmware = 0; revision = 0 };
       flags = 0;
       led = 0;
       house = 0;
@@ -36,8 +36,8 @@ blank =
       load = Load.Dimmer (record { level = 0; ramp = 0; on_level = 0 });
     }
 
-abbrev pub firstIn : List Module → Module
-firstIn row = get_or row 0 blank
+abbrev pub first_in : List Module → Module
+first_in row = get_or row 0 blank
 
 abbrev pub by_step : List Module → Step → Heed
 by_step row t =
@@ -51,13 +51,13 @@ by_step row t =
       room = t.room;
     }
 
-abbrev pub aloneOf : Seating → List ℕ → List ℕ → List ℕ → Heed
-aloneOf s l message room = by_step s.row (step_of (firstIn s.row) l message room)
+abbrev pub alone_of : Seating → List ℕ → List ℕ → List ℕ → Heed
+alone_of s l message room = by_step s.row (step_of (first_in s.row) l message room)
 
-abbrev pub byClass : ClassStep → Heed
-byClass t =
+abbrev pub by_class : ClassStep → Heed
+by_class t =
     record {
-      number = classNumberOf t.outcome;
+      number = class_number_of t.outcome;
       reply = t.reply;
       read = t.read;
       whom = t.whom;
@@ -66,15 +66,15 @@ byClass t =
       room = t.room;
     }
 
-abbrev pub classHeed : Seating → List ℕ → List ℕ → List ℕ → Heed
-classHeed s l message room = byClass (seatsOf s.row s.count l message room)
+abbrev pub class_heed : Seating → List ℕ → List ℕ → List ℕ → Heed
+class_heed s l message room = by_class (seats_of s.row s.count l message room)
 
-unfoldable pub heedOf : Seating → List ℕ → List ℕ → List ℕ → Heed
-heedOf s l message room = choose s.is_class (classHeed s l message room) (aloneOf s l message room)
+unfoldable pub heed_of : Seating → List ℕ → List ℕ → List ℕ → Heed
+heed_of s l message room = choose s.is_class (class_heed s l message room) (alone_of s l message room)
 
 -- the same seats, with other modules in them
-abbrev pub seatedWith : Seating → List Module → Seating
-seatedWith s row = record { row = row; count = s.count; is_class = s.is_class }
+abbrev pub seated_with : Seating → List Module → Seating
+seated_with s row = record { row = row; count = s.count; is_class = s.is_class }
 
 -- what a call promises: its answer, link memory and room afterwards
 pub record Heeds (t : Heed) (s : Seating) (r : Heeded) (links room : List ℕ) : Type 0 where
@@ -82,6 +82,6 @@ pub record Heeds (t : Heed) (s : Seating) (r : Heeded) (links room : List ℕ) :
   pub sent : r.length ≡ length t.reply
   pub read : r.read ≡ t.read
   pub whom : r.whom ≡ t.whom
-  pub next : r.next ≡ seatedWith s t.row
+  pub next : r.next ≡ seated_with s t.row
   pub memory : links ≡ t.links
   pub room_after : room ≡ t.room

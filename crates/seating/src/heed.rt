@@ -1,5 +1,5 @@
 // One message to whoever sits there.
-ghost use Rattle.seating.specs.Heed.{heedOf, aloneOf, classHeed, Heeds};
+ghost use Rattle.seating.specs.Heed.{heed_of, alone_of, class_heed, Heeds};
 
 use class::seats::class_seats;
 use device::step::step;
@@ -28,7 +28,7 @@ pub struct Heeded {
 }
 
 pub fn heed(s: Seating, links: &mut [u8], message: &[u8], room: &mut [u8]) -> Heeded
-    ensures { Heeds (heedOf s links.old message.now room.old)
+    ensures { Heeds (heed_of s links.old message.now room.old)
         s result links.new room.new }
 {
     if s.is_class {
@@ -38,7 +38,7 @@ pub fn heed(s: Seating, links: &mut [u8], message: &[u8], room: &mut [u8]) -> He
 }
 
 fn heed_alone(s: Seating, links: &mut [u8], message: &[u8], room: &mut [u8]) -> Heeded
-    ensures { Heeds (aloneOf s links.old message.now room.old)
+    ensures { Heeds (alone_of s links.old message.now room.old)
         s result links.new room.new }
 {
     let row = s.row;
@@ -57,7 +57,7 @@ fn heed_alone(s: Seating, links: &mut [u8], message: &[u8], room: &mut [u8]) -> 
 }
 
 fn heed_class(s: Seating, links: &mut [u8], message: &[u8], room: &mut [u8]) -> Heeded
-    ensures { Heeds (classHeed s links.old message.now room.old)
+    ensures { Heeds (class_heed s links.old message.now room.old)
         s result links.new room.new }
 {
     let row = s.row;

@@ -1,13 +1,13 @@
 // Who sits there at first.
 ghost use Rattle.std.specs.Prelude.{◌≡◌};
-ghost use Rattle.seating.specs.Start.{aloneWith, classWith};
+ghost use Rattle.seating.specs.Start.{alone_with, class_with};
 
 use crate::heed::Seating;
 use module::state::Module;
 
 // The places behind the first hold what nobody asks for.
 pub fn alone(m: Module) -> Seating
-    ensures { result ≡ aloneWith m }
+    ensures { result ≡ alone_with m }
 {
     Seating {
         row: [m; 16],
@@ -17,7 +17,7 @@ pub fn alone(m: Module) -> Seating
 }
 
 pub fn class_with(row: [Module; 16], count: usize) -> Seating
-    ensures { result ≡ classWith row count }
+    ensures { result ≡ class_with row count }
 {
     Seating {
         row: row,

@@ -5,9 +5,9 @@ use Rattle.basis.specs.Table.{Row, among, ◌⇒◌}
 use Rattle.basis.specs.Flags.{flagged}
 use Rattle.wire.specs.declared.request.Request.{Request}
 use Rattle.wire.specs.declared.command.Extended.{Extended}
-use Rattle.wire.specs.Bytes.{dataIn}
+use Rattle.wire.specs.Bytes.{data_in}
 use Rattle.links.specs.declared.name.Place.{Place}
-use Rattle.links.specs.Name.{placeOf}
+use Rattle.links.specs.Name.{place_of}
 use Rattle.reply.specs.declared.due.DataBytes.{DataBytes}
 use Rattle.load.specs.declared.entry.Properties.{Properties}
 use Rattle.module.specs.declared.state.Module.{Module}
@@ -17,22 +17,22 @@ use Rattle.module.specs.declared.deed.Deed.{Deed}
 use Rattle.module.specs.Deed.{acked, limited}
 
 -- 20: Command 2 is a flag's code, 00 to 0F
-abbrev pub flagsDeed : Module → ℕ → Deed
-flagsDeed m code = limited 0x00 0x0f code (acked (Change.Flags (flagged code m.flags)))
+abbrev pub flags_deed : Module → ℕ → Deed
+flags_deed m code = limited 0x00 0x0f code (acked (Change.Flags (flagged code m.flags)))
 
 -- 2E: Data 2 says what is asked for
-abbrev pub propertyRows : List ℕ → List (Row Deed)
-propertyRows d =
-    0x04 ⇒ acked (Change.X10 (dataIn d 3) (dataIn d 4)) ∷
-    0x07 ⇒ limited 0x11 0x7f (dataIn d 3) (acked (Change.Led (dataIn d 3))) ∷
+abbrev pub property_rows : List ℕ → List (Row Deed)
+property_rows d =
+    0x04 ⇒ acked (Change.X10 (data_in d 3) (data_in d 4)) ∷
+    0x07 ⇒ limited 0x11 0x7f (data_in d 3) (acked (Change.Led (data_in d 3))) ∷
     []
 
-unfoldable pub propertyDeed : List ℕ → Deed
-propertyDeed d = among (dataIn d 2) Deed.Unlisted (propertyRows d)
+unfoldable pub property_deed : List ℕ → Deed
+property_deed d = among (data_in d 2) Deed.Unlisted (property_rows d)
 
 -- it needs Command 2 = 00
-unfoldable pub propertiesDeed : Request → List ℕ → Deed
-propertiesDeed r d = choose (eqb r.command2 0x00) (propertyDeed d) Deed.Unlisted
+unfoldable pub properties_deed : Request → List ℕ → Deed
+properties_deed r d = choose (eqb r.command2 0x00) (property_deed d) Deed.Unlisted
 
 -- Get Properties: Data 1 as sent, 01, 00, 00, house, unit, ramp, on level, LED, 00, 01, 00, 00, 00
 abbrev pub shown : Module → ℕ → Properties → DataBytes
@@ -54,36 +54,36 @@ shown m data1 p =
       d14 = 0x00;
     }
 
-abbrev pub shownDeed : Module → ℕ → Properties → Deed
-shownDeed m data1 p = Deed.Done Change.Nothing (Ack.WithProperties (shown m data1 p))
+abbrev pub shown_deed : Module → ℕ → Properties → Deed
+shown_deed m data1 p = Deed.Done Change.Nothing (Ack.WithProperties (shown m data1 p))
 
 -- 2F, Data 2 = 00: records are sent from k on, Data 5 at most
-abbrev pub getDeed : List ℕ → Place → Deed
-getDeed d (Place.Record k) = Deed.Done Change.Nothing (Ack.WithRecords (dataIn d 1) k (dataIn d 5))
-getDeed d Place.Illegal = Deed.Unlisted
+abbrev pub get_deed : List ℕ → Place → Deed
+get_deed d (Place.Record k) = Deed.Done Change.Nothing (Ack.WithRecords (data_in d 1) k (data_in d 5))
+get_deed d Place.Illegal = Deed.Unlisted
 
 -- Data 2 = 02: Data 5 = 1 to 8 bytes, from Data 6 on, go over the first bytes of record k
-abbrev pub setDeed : List ℕ → Place → Deed
-setDeed d (Place.Record k) = limited 1 8 (dataIn d 5) (Deed.Written k (dataIn d 5))
-setDeed d Place.Illegal = Deed.Unlisted
+abbrev pub set_deed : List ℕ → Place → Deed
+set_deed d (Place.Record k) = limited 1 8 (data_in d 5) (Deed.Written k (data_in d 5))
+set_deed d Place.Illegal = Deed.Unlisted
 
-abbrev pub recordRows : List ℕ → Place → List (Row Deed)
-recordRows d place =
-    0x00 ⇒ getDeed d place ∷
-    0x02 ⇒ setDeed d place ∷
+abbrev pub record_rows : List ℕ → Place → List (Row Deed)
+record_rows d place =
+    0x00 ⇒ get_deed d place ∷
+    0x02 ⇒ set_deed d place ∷
     []
 
 -- of the record, of n, that Data 3 and 4 name
-unfoldable pub recordDeed : List ℕ → ℕ → Deed
-recordDeed d n = among (dataIn d 2) Deed.Unlisted (recordRows d (placeOf n (dataIn d 3 * 256 + dataIn d 4)))
+unfoldable pub record_deed : List ℕ → ℕ → Deed
+record_deed d n = among (data_in d 2) Deed.Unlisted (record_rows d (place_of n (data_in d 3 * 256 + data_in d 4)))
 
 -- it needs Command 2 = 00
-unfoldable pub databaseDeed : Request → List ℕ → ℕ → Deed
-databaseDeed r d n = choose (eqb r.command2 0x00) (recordDeed d n) Deed.Unlisted
+unfoldable pub database_deed : Request → List ℕ → ℕ → Deed
+database_deed r d n = choose (eqb r.command2 0x00) (record_deed d n) Deed.Unlisted
 
 -- link memory has n records
-abbrev pub extendedDeed : Module → Request → List ℕ → ℕ → Extended → Deed
-extendedDeed m r d n Extended.SetFlags = flagsDeed m r.command2
-extendedDeed m r d n Extended.Properties = propertiesDeed r d
-extendedDeed m r d n Extended.Database = databaseDeed r d n
-extendedDeed m r d n Extended.Load = Deed.Unlisted
+abbrev pub extended_deed : Module → Request → List ℕ → ℕ → Extended → Deed
+extended_deed m r d n Extended.SetFlags = flags_deed m r.command2
+extended_deed m r d n Extended.Properties = properties_deed r d
+extended_deed m r d n Extended.Database = database_deed r d n
+extended_deed m r d n Extended.Load = Deed.Unlisted

@@ -12,28 +12,28 @@ use Rattle.module.specs.declared.deed.Deed.{Deed}
 use Rattle.module.specs.Deed.{acked, telling}
 
 -- 0F ping, 10 ID request
-abbrev pub openDeed : OpenCommand → Deed
-openDeed OpenCommand.Ping = acked Change.Nothing
-openDeed OpenCommand.IdRequest = Deed.Done Change.Nothing Ack.WithId
+abbrev pub open_deed : OpenCommand → Deed
+open_deed OpenCommand.Ping = acked Change.Nothing
+open_deed OpenCommand.IdRequest = Deed.Done Change.Nothing Ack.WithId
 
 -- 1F: Command 2 says what is asked for
-abbrev pub flagBytes : Module → List (Row Deed)
-flagBytes m =
+abbrev pub flag_bytes : Module → List (Row Deed)
+flag_bytes m =
     0x00 ⇒ telling m.flags ∷
     0x01 ⇒ telling m.delta ∷
     []
 
-unfoldable pub flagsTold : Module → ℕ → Deed
-flagsTold m command2 = among command2 Deed.Unlisted (flagBytes m)
+unfoldable pub flags_told : Module → ℕ → Deed
+flags_told m command2 = among command2 Deed.Unlisted (flag_bytes m)
 
 -- 0D, 1F, 30
-abbrev pub moduleDeed : Module → Request → ModuleCommand → Deed
-moduleDeed m r ModuleCommand.EngineVersion = telling 0x02
-moduleDeed m r ModuleCommand.ReadFlags = flagsTold m r.command2
-moduleDeed m r ModuleCommand.Beep = acked Change.Nothing
+abbrev pub module_deed : Module → Request → ModuleCommand → Deed
+module_deed m r ModuleCommand.EngineVersion = telling 0x02
+module_deed m r ModuleCommand.ReadFlags = flags_told m r.command2
+module_deed m r ModuleCommand.Beep = acked Change.Nothing
 
 -- commands to the load are the kind's own
-abbrev pub standardDeed : Module → Request → Standard → Deed
-standardDeed m r (Standard.Open command) = openDeed command
-standardDeed m r (Standard.Module command) = moduleDeed m r command
-standardDeed m r Standard.Load = Deed.Unlisted
+abbrev pub standard_deed : Module → Request → Standard → Deed
+standard_deed m r (Standard.Open command) = open_deed command
+standard_deed m r (Standard.Module command) = module_deed m r command
+standard_deed m r Standard.Load = Deed.Unlisted

@@ -1,6 +1,6 @@
 // 2F: link memory read and written over the wire ("Direct commands, extended").
 ghost use Rattle.std.specs.Prelude.{◌≡◌, ◌<◌};
-ghost use Rattle.shared.specs.Extended.{getDeed, setDeed, recordDeed, databaseDeed};
+ghost use Rattle.shared.specs.Extended.{get_deed, set_deed, record_deed, database_deed};
 
 use links::name::{Place, place_of};
 use module::change::Change;
@@ -9,7 +9,7 @@ use wire::request::Request;
 
 // Command 2 must be 00.
 pub(crate) fn database_deed(r: Request, data: [u8; 14], records: usize) -> Deed
-    ensures { result ≡ databaseDeed r «data» records }
+    ensures { result ≡ database_deed r «data» records }
 {
     let command2 = r.command2;
     match command2 {
@@ -20,7 +20,7 @@ pub(crate) fn database_deed(r: Request, data: [u8; 14], records: usize) -> Deed
 
 // Data 2 says what is asked for, of the record that Data 3 and 4 name.
 fn record_deed(data: [u8; 14], records: usize) -> Deed
-    ensures { result ≡ recordDeed «data» records }
+    ensures { result ≡ record_deed «data» records }
 {
     let what = data[1];
     let place = place_of(records, wide(data[2]) * 256 + wide(data[3]));
@@ -33,7 +33,7 @@ fn record_deed(data: [u8; 14], records: usize) -> Deed
 
 // Get Database: Data 5 is how many records at most.
 fn get_deed(data: [u8; 14], place: Place) -> Deed
-    ensures { result ≡ getDeed «data» place }
+    ensures { result ≡ get_deed «data» place }
 {
     match place {
         Place::Record(k) => Deed::Done(
@@ -46,7 +46,7 @@ fn get_deed(data: [u8; 14], place: Place) -> Deed
 
 // Set Database: Data 5 is how many bytes.
 fn set_deed(data: [u8; 14], place: Place) -> Deed
-    ensures { result ≡ setDeed «data» place }
+    ensures { result ≡ set_deed «data» place }
 {
     let n = data[4];
     match place {

@@ -1,6 +1,6 @@
 // What an extended direct command does to every module ("Direct commands, extended").
 ghost use Rattle.std.specs.Prelude.{◌≡◌};
-ghost use Rattle.shared.specs.Extended.{flagsDeed, extendedDeed};
+ghost use Rattle.shared.specs.Extended.{flags_deed, extended_deed};
 
 use crate::database::database_deed;
 use crate::flags::flagged;
@@ -19,7 +19,7 @@ pub(crate) fn extended_deed(
     records: usize,
     command: Extended,
 ) -> Deed
-    ensures { result ≡ extendedDeed m r «data» records command }
+    ensures { result ≡ extended_deed m r «data» records command }
 {
     match command {
         Extended::SetFlags => flags_deed(m, r.command2),
@@ -31,7 +31,7 @@ pub(crate) fn extended_deed(
 
 // 20: Command 2 is a flag's code.
 fn flags_deed(m: Module, code: u8) -> Deed
-    ensures { result ≡ flagsDeed m code }
+    ensures { result ≡ flags_deed m code }
 {
     match code {
         0x00..=0x0f => acked(Change::Flags(flagged(code, m.flags))),

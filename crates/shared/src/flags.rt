@@ -1,6 +1,6 @@
 // The flag rule, for eight flags ("Direct commands, extended").
 ghost use Rattle.std.specs.Prelude.{◌≡◌, ◌<◌, ◌^◌};
-ghost use Rattle.basis.specs.Flags.{setBit, clearBit, flagged};
+ghost use Rattle.basis.specs.Flags.{set_bit, clear_bit, flagged};
 
 pub(crate) fn flagged(code: u8, flags: u8) -> u8
     requires { code < 16 }
@@ -15,7 +15,7 @@ pub(crate) fn flagged(code: u8, flags: u8) -> u8
 
 fn set_bit(b: u8, flags: u8) -> u8
     requires { b < 8 }
-    ensures { result ≡ setBit b flags }
+    ensures { result ≡ set_bit b flags }
 {
     let p = power(b);
     if flags / p % 2 == 1 { flags } else { flags + p }
@@ -23,7 +23,7 @@ fn set_bit(b: u8, flags: u8) -> u8
 
 fn clear_bit(b: u8, flags: u8) -> u8
     requires { b < 8 }
-    ensures { result ≡ clearBit b flags }
+    ensures { result ≡ clear_bit b flags }
 {
     let p = power(b);
     if flags / p % 2 == 1 { flags - p } else { flags }

@@ -1,6 +1,6 @@
 // 2E: the properties that every module has, and what Get Properties shows ("Direct commands, extended").
 ghost use Rattle.std.specs.Prelude.{◌≡◌};
-ghost use Rattle.shared.specs.Extended.{propertyDeed, propertiesDeed, shownDeed};
+ghost use Rattle.shared.specs.Extended.{property_deed, properties_deed, shown_deed};
 
 use load::entry::Properties;
 use module::change::Change;
@@ -11,7 +11,7 @@ use wire::request::Request;
 
 // Command 2 must be 00.
 pub(crate) fn properties_deed(r: Request, data: [u8; 14]) -> Deed
-    ensures { result ≡ propertiesDeed r «data» }
+    ensures { result ≡ properties_deed r «data» }
 {
     let command2 = r.command2;
     match command2 {
@@ -22,7 +22,7 @@ pub(crate) fn properties_deed(r: Request, data: [u8; 14]) -> Deed
 
 // Data 2 says what is asked for, and Data 3 is the new value.
 fn property_deed(data: [u8; 14]) -> Deed
-    ensures { result ≡ propertyDeed «data» }
+    ensures { result ≡ property_deed «data» }
 {
     let what = data[1];
     let x = data[2];
@@ -35,7 +35,7 @@ fn property_deed(data: [u8; 14]) -> Deed
 
 // Get Properties, of a module whose kind shows these.
 pub fn shown_deed(m: Module, data1: u8, p: Properties) -> Deed
-    ensures { result ≡ shownDeed m data1 p }
+    ensures { result ≡ shown_deed m data1 p }
 {
     Deed::Done(
         Change::Nothing,

@@ -1,6 +1,6 @@
 // What a standard direct command does to every module ("Direct commands, standard").
 ghost use Rattle.std.specs.Prelude.{◌≡◌};
-ghost use Rattle.shared.specs.Standard.{openDeed, flagsTold, moduleDeed, standardDeed};
+ghost use Rattle.shared.specs.Standard.{open_deed, flags_told, module_deed, standard_deed};
 
 use module::change::Change;
 use module::deed::{Ack, Deed, acked, telling};
@@ -9,7 +9,7 @@ use wire::command::{ModuleCommand, OpenCommand, Standard};
 use wire::request::Request;
 
 pub(crate) fn standard_deed(m: Module, r: Request, command: Standard) -> Deed
-    ensures { result ≡ standardDeed m r command }
+    ensures { result ≡ standard_deed m r command }
 {
     match command {
         Standard::Open(c) => open_deed(c),
@@ -19,7 +19,7 @@ pub(crate) fn standard_deed(m: Module, r: Request, command: Standard) -> Deed
 }
 
 fn open_deed(command: OpenCommand) -> Deed
-    ensures { result ≡ openDeed command }
+    ensures { result ≡ open_deed command }
 {
     match command {
         OpenCommand::Ping => acked(Change::Nothing),
@@ -28,7 +28,7 @@ fn open_deed(command: OpenCommand) -> Deed
 }
 
 fn module_deed(m: Module, r: Request, command: ModuleCommand) -> Deed
-    ensures { result ≡ moduleDeed m r command }
+    ensures { result ≡ module_deed m r command }
 {
     match command {
         ModuleCommand::EngineVersion => telling(0x02),
@@ -39,7 +39,7 @@ fn module_deed(m: Module, r: Request, command: ModuleCommand) -> Deed
 
 // 1F: Command 2 says what is asked for.
 fn flags_told(m: Module, command2: u8) -> Deed
-    ensures { result ≡ flagsTold m command2 }
+    ensures { result ≡ flags_told m command2 }
 {
     match command2 {
         0x00 => telling(m.flags),

@@ -1,6 +1,6 @@
 // The rows that all kinds share; a kind's own table comes before it.
 ghost use Rattle.std.specs.Prelude.{◌≡◌};
-ghost use Rattle.shared.specs.Table.{sharedDeed};
+ghost use Rattle.shared.specs.Table.{shared_deed};
 
 use crate::extended::extended_deed;
 use crate::standard::standard_deed;
@@ -11,7 +11,7 @@ use wire::request::Request;
 
 // With the data bytes beside the command, and `records` records in link memory.
 pub fn shared_deed(m: Module, r: Request, data: [u8; 14], records: usize, command: Command) -> Deed
-    ensures { result ≡ sharedDeed m r «data» records command }
+    ensures { result ≡ shared_deed m r «data» records command }
 {
     match command {
         Command::Standard(s) => standard_deed(m, r, s),

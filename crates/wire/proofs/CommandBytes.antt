@@ -11,28 +11,28 @@ use Rattle.wire.specs.declared.command.OpenCommand.{OpenCommand}
 use Rattle.wire.specs.declared.command.ModuleCommand.{ModuleCommand}
 use Rattle.wire.specs.declared.command.Extended.{Extended}
 use Rattle.wire.specs.declared.command.Command.{Command}
-use Rattle.wire.specs.Bytes.{command1Of, isExtended}
-use Rattle.wire.specs.Commands.{standards, extendeds, standardOf, extendedOf}
-use Rattle.wire.specs.Asked.{Short, Long, commandIn}
+use Rattle.wire.specs.Bytes.{command1_of, is_extended}
+use Rattle.wire.specs.Commands.{standards, extendeds, standard_of, extended_of}
+use Rattle.wire.specs.Asked.{Short, Long, command_in}
 
 -- the Command 1 of each
-abbrev pub openCode : OpenCommand → ℕ
-openCode OpenCommand.Ping = 0x0f
-openCode OpenCommand.IdRequest = 0x10
+abbrev pub open_code : OpenCommand → ℕ
+open_code OpenCommand.Ping = 0x0f
+open_code OpenCommand.IdRequest = 0x10
 
-abbrev pub moduleCode : ModuleCommand → ℕ
-moduleCode ModuleCommand.EngineVersion = 0x0d
-moduleCode ModuleCommand.ReadFlags = 0x1f
-moduleCode ModuleCommand.Beep = 0x30
+abbrev pub module_code : ModuleCommand → ℕ
+module_code ModuleCommand.EngineVersion = 0x0d
+module_code ModuleCommand.ReadFlags = 0x1f
+module_code ModuleCommand.Beep = 0x30
 
 module _ (c : ℕ) where
   -- in a standard message
   pub data Told : Standard → Type 0 where
-    to-anybody : (command : OpenCommand) → c ≡ openCode command → Told (Standard.Open command)
-    to-module : (command : ModuleCommand) → c ≡ moduleCode command → Told (Standard.Module command)
+    to-anybody : (command : OpenCommand) → c ≡ open_code command → Told (Standard.Open command)
+    to-module : (command : ModuleCommand) → c ≡ module_code command → Told (Standard.Module command)
     to-load : Told Standard.Load
 
-  told : Told (standardOf c)
+  told : Told (standard_of c)
   unfolding standards
   told =
       by_rows Told c Standard.Load standards
@@ -51,25 +51,25 @@ module _ (c : ℕ) where
     to-database : c ≡ 0x2f → ToldLong Extended.Database
     long-to-load : ToldLong Extended.Load
 
-  told-long : ToldLong (extendedOf c)
+  told_long : ToldLong (extended_of c)
   unfolding extendeds
-  told-long = by_rows ToldLong c Extended.Load extendeds (to-set-flags or to-properties or to-database or tt) long-to-load
+  told_long = by_rows ToldLong c Extended.Load extendeds (to-set-flags or to-properties or to-database or tt) long-to-load
 
 -- what holds of every command that the bytes may name holds of the one that they name
-pub by-command : (s : List ℕ) (P : Command → Type 0)
-    → (isExtended s ≡ true → (command : Extended) → ToldLong (command1Of s) command → P (Command.Extended command))
-    → (isExtended s ≡ false → (command : Standard) → Told (command1Of s) command → P (Command.Standard command))
-    → P (commandIn s)
-by-command s P long short =
-    by P (isExtended s)
-    (λ x. long x (extendedOf (command1Of s)) (told-long (command1Of s)))
-    (λ x. short x (standardOf (command1Of s)) (told (command1Of s)))
+pub by_command : (s : List ℕ) (P : Command → Type 0)
+    → (is_extended s ≡ true → (command : Extended) → ToldLong (command1_of s) command → P (Command.Extended command))
+    → (is_extended s ≡ false → (command : Standard) → Told (command1_of s) command → P (Command.Standard command))
+    → P (command_in s)
+by_command s P long short =
+    by P (is_extended s)
+    (λ x. long x (extended_of (command1_of s)) (told_long (command1_of s)))
+    (λ x. short x (standard_of (command1_of s)) (told (command1_of s)))
 
 -- the command of a message with this Command 1
-pub short-command : (s : List ℕ) (c : ℕ) → Short s c → commandIn s ≡ Command.Standard (standardOf c)
+pub short_command : (s : List ℕ) (c : ℕ) → Short s c → command_in s ≡ Command.Standard (standard_of c)
 unfolding choose
-short-command s c x = rw (x.0, x.1)
+short_command s c x = rw (x.0, x.1)
 
-pub long-command : (s : List ℕ) (c : ℕ) → Long s c → commandIn s ≡ Command.Extended (extendedOf c)
+pub long_command : (s : List ℕ) (c : ℕ) → Long s c → command_in s ≡ Command.Extended (extended_of c)
 unfolding choose
-long-command s c x = rw (x.0, x.1)
+long_command s c x = rw (x.0, x.1)

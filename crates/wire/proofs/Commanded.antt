@@ -8,7 +8,7 @@ use Rattle.basis.specs.Numbers.{within}
 use Rattle.basis.proofs.Tests.{both, clash}
 use Rattle.basis.proofs.Choice.{by}
 use Rattle.wire.specs.declared.command.GroupCommand.{GroupCommand}
-use Rattle.wire.specs.Commands.{turn_of, groupCommandOf}
+use Rattle.wire.specs.Commands.{turn_of, group_command_of}
 
 pub data Commanded (c : ℕ) : GroupCommand → Type 0 where
   turns-on : 0x11 ≤ c → c ≤ 0x12 → Commanded c GroupCommand.On
@@ -21,8 +21,8 @@ limits a b x e = let p = both (leb a x) (leb x b) e in (leb-true a x p.0, leb-tr
 inside : (a b x : ℕ) → a ≤ x → x ≤ b → within a b x ≡ true
 inside a b x p q = rw (le-leb a x p, le-leb x b q)
 
-pub commanded : (c : ℕ) → Commanded c (groupCommandOf c)
-unfolding groupCommandOf
+pub commanded : (c : ℕ) → Commanded c (group_command_of c)
+unfolding group_command_of
 commanded c = by (Commanded c) (within 0x11 0x14 c) turned (λ e. neither (λ r. clash (inside 0x11 0x14 c r.0 r.1) e))
   where
     turned : within 0x11 0x14 c ≡ true → Commanded c (turn_of c)

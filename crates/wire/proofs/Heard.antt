@@ -1,4 +1,4 @@
--- What a message is heard as: it says whom it is for, and a well-formed one has a kind.
+-- What a message is heard as: it says whom it is for, and a well_formed_lem one has a kind.
 use Prim.Native.Nat.{ℕ}
 use mathlib.Core.Path.{◌≡◌, refl}
 use mathlib.Core.Bool.{true, false, not, ◌&&◌}
@@ -12,20 +12,20 @@ use Rattle.wire.specs.declared.kind.Reading.{Reading}
 use Rattle.wire.specs.declared.kind.Message.{Message}
 use Rattle.wire.specs.Bytes.{named_in, data_of, is_whole}
 use Rattle.wire.specs.Kinds.{is_foreign, kind_of}
-use Rattle.wire.specs.Checksum.{isSumWrong}
-use Rattle.wire.specs.Reading.{wellFormed, read_of}
+use Rattle.wire.specs.Checksum.{is_sum_wrong}
+use Rattle.wire.specs.Reading.{well_formed, read_of}
 
 -- whoever reads it
-pub says-whom : (s : List ℕ) (own : Address) → (read_of s own).to ≡ named_in s
+pub says_whom : (s : List ℕ) (own : Address) → (read_of s own).to ≡ named_in s
 unfolding read_of
-says-whom s own =
+says_whom s own =
     let P : Message → Type 0 = λ m. m.to ≡ named_in s in
     either P _ (either P _ refl (either P _ refl refl)) refl
 
-module _ (s : List ℕ) (own : Address) (w : wellFormed s own ≡ true) where
-  pub parts : (is_whole s ≡ true) × (is_foreign s own ≡ false) × (isSumWrong s ≡ false)
+module _ (s : List ℕ) (own : Address) (w : well_formed s own ≡ true) where
+  pub parts : (is_whole s ≡ true) × (is_foreign s own ≡ false) × (is_sum_wrong s ≡ false)
   parts =
-      let a = both (is_whole s && not (is_foreign s own)) (not (isSumWrong s)) w in
+      let a = both (is_whole s && not (is_foreign s own)) (not (is_sum_wrong s)) w in
       let b = both (is_whole s) (not (is_foreign s own)) a.0 in
       (b.0, not-true _ b.1, not-true _ a.1)
 

@@ -19,8 +19,8 @@ standards =
     0x30 ⇒ Standard.Module ModuleCommand.Beep ∷
     []
 
-abbrev pub standardOf : ℕ → Standard
-standardOf command1 = among command1 Standard.Load standards
+abbrev pub standard_of : ℕ → Standard
+standard_of command1 = among command1 Standard.Load standards
 
 -- "Direct commands, extended"
 unfoldable pub extendeds : List (Row Extended)
@@ -30,12 +30,12 @@ extendeds =
     0x2f ⇒ Extended.Database ∷
     []
 
-abbrev pub extendedOf : ℕ → Extended
-extendedOf command1 = among command1 Extended.Load extendeds
+abbrev pub extended_of : ℕ → Extended
+extended_of command1 = among command1 Extended.Load extendeds
 
 -- "Groups": of 11 to 14 the first two turn on, the others off
 abbrev pub turn_of : ℕ → GroupCommand
 turn_of command1 = choose (leb command1 0x12) GroupCommand.On GroupCommand.Off
 
-unfoldable pub groupCommandOf : ℕ → GroupCommand
-groupCommandOf command1 = choose (within 0x11 0x14 command1) (turn_of command1) GroupCommand.Unlisted
+unfoldable pub group_command_of : ℕ → GroupCommand
+group_command_of command1 = choose (within 0x11 0x14 command1) (turn_of command1) GroupCommand.Unlisted

@@ -4,48 +4,48 @@ use Rattle.basis.specs.Choice.{choose}
 use Rattle.wire.specs.declared.address.Address.{Address}
 use Rattle.wire.specs.declared.command.Command.{Command}
 use Rattle.wire.specs.declared.kind.MessageKind.{MessageKind}
-use Rattle.wire.specs.Bytes.{fromOf, toOf, flags_of, command1Of, requestOf, isExtended, equals}
-use Rattle.wire.specs.Commands.{standardOf, extendedOf, groupCommandOf}
+use Rattle.wire.specs.Bytes.{from_of, to_of, flags_of, command1_of, request_of, is_extended, equals}
+use Rattle.wire.specs.Commands.{standard_of, extended_of, group_command_of}
 
 -- bits 7 to 5 as a number
 abbrev pub type_of : List ℕ → ℕ
 type_of s = flags_of s / 32
 
 -- 000
-abbrev pub isDirect : List ℕ → Bool
-isDirect s = eqb (type_of s) 0
+abbrev pub is_direct : List ℕ → Bool
+is_direct s = eqb (type_of s) 0
 
 -- 010
-abbrev pub isCleanup : List ℕ → Bool
-isCleanup s = eqb (type_of s) 2
+abbrev pub is_cleanup : List ℕ → Bool
+is_cleanup s = eqb (type_of s) 2
 
 -- 110
-abbrev pub isBroadcast : List ℕ → Bool
-isBroadcast s = eqb (type_of s) 6
+abbrev pub is_broadcast : List ℕ → Bool
+is_broadcast s = eqb (type_of s) 6
 
 -- of no kind that we hear: another type; extended but not direct
-abbrev pub isUnheard : List ℕ → Bool
-isUnheard s = not (isDirect s || isCleanup s || isBroadcast s) || (isExtended s && not (isDirect s))
+abbrev pub is_unheard : List ℕ → Bool
+is_unheard s = not (is_direct s || is_cleanup s || is_broadcast s) || (is_extended s && not (is_direct s))
 
 -- not addressed to us: direct or cleanup with To not ours
-abbrev pub isAstray : List ℕ → Address → Bool
-isAstray s own = (isDirect s || isCleanup s) && not (equals (toOf s) own)
+abbrev pub is_astray : List ℕ → Address → Bool
+is_astray s own = (is_direct s || is_cleanup s) && not (equals (to_of s) own)
 
 -- result 3
 abbrev pub is_foreign : List ℕ → Address → Bool
-is_foreign s own = isUnheard s || isAstray s own
+is_foreign s own = is_unheard s || is_astray s own
 
 -- a direct command, by the message's length and Command 1
-abbrev pub commandOf : Bool → ℕ → Command
-commandOf long command1 = choose long (Command.Extended (extendedOf command1)) (Command.Standard (standardOf command1))
+abbrev pub command_of : Bool → ℕ → Command
+command_of long command1 = choose long (Command.Extended (extended_of command1)) (Command.Standard (standard_of command1))
 
 -- the kind of a message that is not foreign
 unfoldable pub kind_of : List ℕ → MessageKind
 kind_of s =
-    choose (isDirect s) (MessageKind.Direct (requestOf s) (commandOf (isExtended s) (command1Of s)))
-    (choose (isCleanup s) (MessageKind.Cleanup (requestOf s) (groupCommandOf (command1Of s)))
-    (MessageKind.Broadcast (fromOf s) (toOf s) (groupCommandOf (command1Of s))))
+    choose (is_direct s) (MessageKind.Direct (request_of s) (command_of (is_extended s) (command1_of s)))
+    (choose (is_cleanup s) (MessageKind.Cleanup (request_of s) (group_command_of (command1_of s)))
+    (MessageKind.Broadcast (from_of s) (to_of s) (group_command_of (command1_of s))))
 
 -- what a message is, whoever it is for; foreign where it is too short to tell
-unfoldable pub heardAs : List ℕ → MessageKind
-heardAs s = choose (ltb (length s) 9 || isUnheard s) MessageKind.Foreign (kind_of s)
+unfoldable pub heard_as : List ℕ → MessageKind
+heard_as s = choose (ltb (length s) 9 || is_unheard s) MessageKind.Foreign (kind_of s)

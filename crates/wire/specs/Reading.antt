@@ -7,11 +7,11 @@ use Rattle.wire.specs.declared.kind.Reading.{Reading}
 use Rattle.wire.specs.declared.kind.Message.{Message}
 use Rattle.wire.specs.Bytes.{named_in, is_whole, data_of}
 use Rattle.wire.specs.Kinds.{is_foreign, kind_of}
-use Rattle.wire.specs.Checksum.{isSumWrong}
+use Rattle.wire.specs.Checksum.{is_sum_wrong}
 
 -- 1, 3 and 4 do not apply
-abbrev pub wellFormed : List ℕ → Address → Bool
-wellFormed s own = is_whole s && not (is_foreign s own) && not (isSumWrong s)
+abbrev pub well_formed : List ℕ → Address → Bool
+well_formed s own = is_whole s && not (is_foreign s own) && not (is_sum_wrong s)
 
 -- a reading with no data bytes beside it
 abbrev pub bare : Address → Reading → Message
@@ -21,30 +21,30 @@ unfoldable pub read_of : List ℕ → Address → Message
 read_of s own =
     choose (is_whole s)
     (choose (is_foreign s own) (bare (named_in s) (Reading.Heard MessageKind.Foreign))
-    (choose (isSumWrong s) (bare (named_in s) Reading.BadSum)
+    (choose (is_sum_wrong s) (bare (named_in s) Reading.BadSum)
     (record { to = named_in s; reading = Reading.Heard (kind_of s); «data» = data_of s })))
     (bare (named_in s) Reading.BadLength)
 
 -- as whoever it is for reads it: what every seat of a class is offered
-abbrev pub heardIn : List ℕ → Message
-heardIn s = read_of s (named_in s)
+abbrev pub heard_in : List ℕ → Message
+heard_in s = read_of s (named_in s)
 
 -- the number of the refusal that applies first, and 0 where none does
-abbrev pub refusalOf : List ℕ → Address → ℕ
-refusalOf s own = choose (is_whole s) (choose (is_foreign s own) 3 (choose (isSumWrong s) 4 0)) 1
+abbrev pub refusal_of : List ℕ → Address → ℕ
+refusal_of s own = choose (is_whole s) (choose (is_foreign s own) 3 (choose (is_sum_wrong s) 4 0)) 1
 
 -- the paper's number of each case that a message is read into: 0 where it is no refusal
-abbrev pub kindNumber : MessageKind → ℕ
-kindNumber (MessageKind.Direct r command) = 0
-kindNumber (MessageKind.Cleanup r command) = 0
-kindNumber (MessageKind.Broadcast from to command) = 0
-kindNumber MessageKind.Foreign = 3
+abbrev pub kind_number : MessageKind → ℕ
+kind_number (MessageKind.Direct r command) = 0
+kind_number (MessageKind.Cleanup r command) = 0
+kind_number (MessageKind.Broadcast from to command) = 0
+kind_number MessageKind.Foreign = 3
 
-abbrev pub readingNumber : Reading → ℕ
-readingNumber (Reading.Heard kind) = kindNumber kind
-readingNumber Reading.BadLength = 1
-readingNumber Reading.BadSum = 4
+abbrev pub reading_number : Reading → ℕ
+reading_number (Reading.Heard kind) = kind_number kind
+reading_number Reading.BadLength = 1
+reading_number Reading.BadSum = 4
 
 pub record ReadPromise (s : List ℕ) (own : Address) (r : Message) : Type 0 where
   pub message : r ≡ read_of s own
-  pub number : readingNumber r.reading ≡ refusalOf s own
+  pub number : reading_number r.reading ≡ refusal_of s own

@@ -1,7 +1,7 @@
 // What a message asks for, by its Command 1: what every module answers alike has a name here. All else is its load's to list, by the bytes
 // themselves, in the crate of its kind.
 ghost use Rattle.std.specs.Prelude.{◌≡◌};
-ghost use Rattle.wire.specs.Commands.{standardOf, extendedOf, turn_of, groupCommandOf};
+ghost use Rattle.wire.specs.Commands.{standard_of, extended_of, turn_of, group_command_of};
 
 // "Direct commands, standard": those that need no link, those that every module takes, and all others.
 #[derive(Drop)]
@@ -49,7 +49,7 @@ pub enum GroupCommand {
 }
 
 pub(crate) fn standard_of(command1: u8) -> Standard
-    ensures { result ≡ standardOf command1 }
+    ensures { result ≡ standard_of command1 }
 {
     match command1 {
         0x0f => Standard::Open(OpenCommand::Ping),
@@ -62,7 +62,7 @@ pub(crate) fn standard_of(command1: u8) -> Standard
 }
 
 pub(crate) fn extended_of(command1: u8) -> Extended
-    ensures { result ≡ extendedOf command1 }
+    ensures { result ≡ extended_of command1 }
 {
     match command1 {
         0x20 => Extended::SetFlags,
@@ -73,7 +73,7 @@ pub(crate) fn extended_of(command1: u8) -> Extended
 }
 
 pub(crate) fn group_command_of(command1: u8) -> GroupCommand
-    ensures { result ≡ groupCommandOf command1 }
+    ensures { result ≡ group_command_of command1 }
 {
     match command1 {
         0x11..=0x14 => turn_of(command1),

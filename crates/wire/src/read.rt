@@ -1,9 +1,9 @@
 // A message of any length, read once.
 ghost use Rattle.std.specs.Prelude.{◌≡◌, true, ◌+◌, ◌≤◌, length};
-ghost use Rattle.wire.specs.Bytes.{addressAt, named_in, requestOf, isExtended, is_whole, data_of};
-ghost use Rattle.wire.specs.Kinds.{isUnheard, isAstray, is_foreign, kind_of, heardAs, commandOf};
-ghost use Rattle.wire.specs.Checksum.{isSumWrong};
-ghost use Rattle.wire.specs.Reading.{bare, read_of, heardIn, ReadPromise};
+ghost use Rattle.wire.specs.Bytes.{address_at, named_in, request_of, is_extended, is_whole, data_of};
+ghost use Rattle.wire.specs.Kinds.{is_unheard, is_astray, is_foreign, kind_of, heard_as, command_of};
+ghost use Rattle.wire.specs.Checksum.{is_sum_wrong};
+ghost use Rattle.wire.specs.Reading.{bare, read_of, heard_in, ReadPromise};
 
 use crate::address::Address;
 use crate::command::{Command, extended_of, group_command_of, standard_of};
@@ -21,7 +21,7 @@ pub fn read(message: &[u8], own: Address) -> Message
 
 // The same for whomever it names: what every seat of a class is offered.
 pub fn hear(message: &[u8]) -> Message
-    ensures { result ≡ heardIn message.now }
+    ensures { result ≡ heard_in message.now }
 {
     let to = named_in(message);
     read_as(message, to, to)
@@ -52,7 +52,7 @@ fn read_as(message: &[u8], to: Address, own: Address) -> Message
 
 // What a message is, whoever it is for and whatever its sum; foreign where it is of no kind that we hear, or too short to tell.
 pub fn heard_as(message: &[u8]) -> MessageKind
-    ensures { result ≡ heardAs message.now }
+    ensures { result ≡ heard_as message.now }
 {
     if message.len() < 9 {
         return MessageKind::Foreign;
@@ -87,7 +87,7 @@ fn is_whole(message: &[u8]) -> bool
 
 // Flags bit 4 is set; a message too short for flags is not extended.
 pub fn is_extended(message: &[u8]) -> bool
-    ensures { result ≡ isExtended message.now }
+    ensures { result ≡ is_extended message.now }
 {
     if message.len() < 7 {
         return false;
@@ -106,7 +106,7 @@ fn is_foreign(message: &[u8], own: Address) -> bool
 // Of no kind that we hear: another type, or extended and not direct.
 fn is_unheard(message: &[u8]) -> bool
     requires { 9 ≤ length message.now }
-    ensures { result ≡ isUnheard message.now }
+    ensures { result ≡ is_unheard message.now }
 {
     let kind = message[6] / 32;
     let direct = kind == 0;
@@ -118,7 +118,7 @@ fn is_unheard(message: &[u8]) -> bool
 // Not addressed to us.
 fn is_astray(message: &[u8], own: Address) -> bool
     requires { 9 ≤ length message.now }
-    ensures { result ≡ isAstray message.now own }
+    ensures { result ≡ is_astray message.now own }
 {
     let kind = message[6] / 32;
     let direct = kind == 0;
@@ -129,7 +129,7 @@ fn is_astray(message: &[u8], own: Address) -> bool
 // Result 4.
 fn is_sum_wrong(message: &[u8]) -> bool
     requires { is_whole message.now ≡ true }
-    ensures { result ≡ isSumWrong message.now }
+    ensures { result ≡ is_sum_wrong message.now }
 {
     if message.len() != 23 {
         return false;
@@ -160,7 +160,7 @@ fn kind_of(message: &[u8]) -> MessageKind
 
 fn request_of(message: &[u8]) -> Request
     requires { 9 ≤ length message.now }
-    ensures { result ≡ requestOf message.now }
+    ensures { result ≡ request_of message.now }
 {
     let from = address_at(message, 0);
     Request {
@@ -173,7 +173,7 @@ fn request_of(message: &[u8]) -> Request
 
 // A direct command, by its length and Command 1.
 fn command_of(is_long: bool, command1: u8) -> Command
-    ensures { result ≡ commandOf is_long command1 }
+    ensures { result ≡ command_of is_long command1 }
 {
     if is_long {
         Command::Extended(extended_of(command1))
@@ -225,7 +225,7 @@ fn named_in(message: &[u8]) -> Address
 // The address at place `at`.
 fn address_at(message: &[u8], at: usize) -> Address
     requires { at + 3 ≤ length message.now }
-    ensures { result ≡ addressAt message.now at }
+    ensures { result ≡ address_at message.now at }
 {
     Address {
         high: message[at],

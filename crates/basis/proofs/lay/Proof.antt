@@ -7,7 +7,7 @@ use lib.ListN.{length, take, drop, length-set}
 use lib.Seq.{take_all}
 use borrow.Author.Tests.{lt-ltb}
 use Rattle.basis.specs.Choice.{choose}
-use Rattle.basis.specs.Laid.{laidIfFits}
+use Rattle.basis.specs.Laid.{laid_if_fits}
 use Rattle.basis.proofs.Laid.{fits, copied}
 use Rattle.basis.proofs.lay.Statement.{statement}
 use Rattle.basis.proofs.lay.Tie as tie
@@ -19,7 +19,7 @@ abbrev decreases-loop : tie.decreases-loop
 decreases-loop room₀ bytes i₀ room i = length bytes - i
 
 returns : tie.Need-returns invariant-loop decreases-loop
-unfolding laidIfFits choose
+unfolding laid_if_fits choose
 returns c =
     let g = c.before.args in
     rw (lt-ltb (length g.room.now) (length g.bytes.now) (omega arith))
@@ -37,8 +37,8 @@ returns-2 c =
     let e : c.before.loop.i ≡ length b = omega arith in
     c.before.loop.invariant.1 ∙ rw (e, take_all (length b) b (omega arith)) (sym (fits g.room.now b (omega arith)))
 
-pub lay-spec : {M : Type 1} → statement M
-lay-spec =
+pub lay_spec : {M : Type 1} → statement M
+lay_spec =
     tie.close
     (tie.spec
     invariant-loop

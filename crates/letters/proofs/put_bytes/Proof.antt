@@ -16,8 +16,8 @@ decreases-loop line₀ at bytes to₀ i₀ line to i = length bytes - i
 returns : tie.Need-returns invariant-loop decreases-loop
 returns c = counts c.before.loop.to c.before.loop.line (omega arith)
 
-pub put-bytes-spec : {M : Type 1} → statement M
-put-bytes-spec =
+pub put_bytes_spec : {M : Type 1} → statement M
+put_bytes_spec =
     tie.close
     (tie.spec
     invariant-loop

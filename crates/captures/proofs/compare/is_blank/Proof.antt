@@ -8,8 +8,8 @@ invariant-loop room i₀ i = i ≤ length room
 abbrev decreases-loop : tie.decreases-loop
 decreases-loop room i₀ i = length room - i
 
-pub is-blank-spec : {M : Type 1} → statement M
-is-blank-spec =
+pub is_blank_spec : {M : Type 1} → statement M
+is_blank_spec =
     tie.close
     (tie.spec
     invariant-loop

@@ -8,8 +8,8 @@ invariant-loop came wanted i₀ i = i ≤ length came
 abbrev decreases-loop : tie.decreases-loop
 decreases-loop came wanted i₀ i = length came - i
 
-pub is-same-spec : {M : Type 1} → statement M
-is-same-spec =
+pub is_same_spec : {M : Type 1} → statement M
+is_same_spec =
     tie.close
     (tie.spec
     invariant-loop

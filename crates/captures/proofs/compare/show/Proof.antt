@@ -8,8 +8,8 @@ invariant-loop bytes i₀ i = i ≤ length bytes
 abbrev decreases-loop : tie.decreases-loop
 decreases-loop bytes i₀ i = length bytes - i
 
-pub show-spec : {M : Type 1} → statement M
-show-spec =
+pub show_spec : {M : Type 1} → statement M
+show_spec =
     tie.close
     (tie.spec
     invariant-loop

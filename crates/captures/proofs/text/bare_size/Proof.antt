@@ -3,8 +3,8 @@ use Rattle.basis.proofs.Counted.{counts}
 use Rattle.captures.proofs.text.bare_size.Statement.{statement}
 use Rattle.captures.proofs.text.bare_size.Tie as tie
 
-pub bare-size-spec : {M : Type 1} → statement M
-bare-size-spec =
+pub bare_size_spec : {M : Type 1} → statement M
+bare_size_spec =
     tie.close
     (tie.spec
     (λ c. let l = c.before.args.line.now in counts (length l) l (omega arith))

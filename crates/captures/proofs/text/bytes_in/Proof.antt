@@ -9,8 +9,8 @@ invariant-loop line bytes₀ n₀ i₀ bytes n i = (length bytes ≡ length byte
 abbrev decreases-loop : tie.decreases-loop
 decreases-loop line bytes₀ n₀ i₀ bytes n i = length line + 1 - i
 
-pub bytes-in-spec : {M : Type 1} → statement M
-bytes-in-spec =
+pub bytes_in_spec : {M : Type 1} → statement M
+bytes_in_spec =
     tie.close
     (tie.spec
     invariant-loop

@@ -8,8 +8,8 @@ invariant-loop a b i₀ i = i ≤ length a
 abbrev decreases-loop : tie.decreases-loop
 decreases-loop a b i₀ i = length a - i
 
-pub is-equal-spec : {M : Type 1} → statement M
-is-equal-spec =
+pub is_equal_spec : {M : Type 1} → statement M
+is_equal_spec =
     tie.close
     (tie.spec
     invariant-loop

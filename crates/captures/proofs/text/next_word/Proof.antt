@@ -8,8 +8,8 @@ invariant-loop line at i₀ i = (at ≤ i) × (i ≤ length line)
 abbrev decreases-loop : tie.decreases-loop
 decreases-loop line at i₀ i = length line - i
 
-pub next-word-spec : {M : Type 1} → statement M
-next-word-spec =
+pub next_word_spec : {M : Type 1} → statement M
+next_word_spec =
     tie.close
     (tie.spec
     invariant-loop

@@ -8,8 +8,8 @@ invariant-loop line n₀ i₀ n i = i ≤ length line
 abbrev decreases-loop : tie.decreases-loop
 decreases-loop line n₀ i₀ n i = length line - i
 
-pub number-in-spec : {M : Type 1} → statement M
-number-in-spec =
+pub number_in_spec : {M : Type 1} → statement M
+number_in_spec =
     tie.close
     (tie.spec
     invariant-loop

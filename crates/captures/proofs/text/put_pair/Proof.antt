@@ -2,8 +2,8 @@ use Rattle.std.proofs.Common.{arith, length-set, rules}
 use Rattle.captures.proofs.text.put_pair.Statement.{statement}
 use Rattle.captures.proofs.text.put_pair.Tie as tie
 
-pub put-pair-spec : {M : Type 1} → statement M
-put-pair-spec =
+pub put_pair_spec : {M : Type 1} → statement M
+put_pair_spec =
     tie.close
     (tie.spec
     (λ c κs. search rules)

@@ -8,8 +8,8 @@ invariant-loop names spots name n₀ at₀ n at = (n ≤ at) × (at ≤ length n
 abbrev decreases-loop : tie.decreases-loop
 decreases-loop names spots name n₀ at₀ n at = length names - at
 
-pub place-in-spec : {M : Type 1} → statement M
-place-in-spec =
+pub place_in_spec : {M : Type 1} → statement M
+place_in_spec =
     tie.close
     (tie.spec
     invariant-loop

@@ -8,8 +8,8 @@ invariant-loop image₀ line at₀ image at = (length image ≡ length image₀)
 abbrev decreases-loop : tie.decreases-loop
 decreases-loop image₀ line at₀ image at = length line - at
 
-pub set-values-spec : {M : Type 1} → statement M
-set-values-spec =
+pub set_values_spec : {M : Type 1} → statement M
+set_values_spec =
     tie.close
     (tie.spec
     invariant-loop

@@ -8,8 +8,8 @@ invariant-loop names spots before came n₀ at₀ n at = (n ≤ at) × (at ≤ l
 abbrev decreases-loop : tie.decreases-loop
 decreases-loop names spots before came n₀ at₀ n at = length names - at
 
-pub show-named-spec : {M : Type 1} → statement M
-show-named-spec =
+pub show_named_spec : {M : Type 1} → statement M
+show_named_spec =
     tie.close
     (tie.spec
     invariant-loop

@@ -24,8 +24,8 @@ seated c =
     (λ q. clash q (le-ltb 16 g.n lent.before.before.before.if1.false))
     (λ q. lent.lend-seats.ensures)
 
-pub class-seats-spec : {M : Type 1} → statement M
-class-seats-spec =
+pub class_seats_spec : {M : Type 1} → statement M
+class_seats_spec =
     tie.close
     (tie.spec
     (λ c κs. search rules)

@@ -63,7 +63,7 @@ use Rattle.row.specs.contracts.progress.ClassAnswer as Y
 use Rattle.row.proofs.progress.ClassAnswer.TheLaws as Y'
 use Rattle.class.specs.contracts.seats.SeatsAnswer as Z
 use Rattle.class.proofs.seats.SeatsAnswer.TheLaws as Z'
-use Rattle.class.proofs.Machine.{R, machA, tells-machA, told-answer, typed-answer}
+use Rattle.class.proofs.Machine.{R, mach_a, tells_mach_a, told_answer, typed_answer}
 use Rattle.class.proofs.AskOpen.{asks_nothing}
 use Rattle.class.proofs.Cut.{cut, glue}
 use Rattle.class.specs.contracts.step.class_step as class-step
@@ -79,8 +79,8 @@ use Rattle.class.proofs.seats.lend_seats.Code as code
 abbrev N : ℕ
 N = 16
 
-abbrev seats-row : RattleType
-seats-row = Array R N
+abbrev seats_row : RattleType
+seats_row = Array R N
 
 abbrev arr : Ty
 arr = ty_array K'.mir N
@@ -92,14 +92,14 @@ av = array_vals (LL.vals K.the_type K'.the_laws)
 abbrev mach : List Module → Val
 mach ss = only (av ss)
 
-abbrev machZ : SeatsAnswer → Val
-machZ r = vstruct (vcons (machA r.answer) (vcons (mach r.seats) vnil))
+abbrev mach_z : SeatsAnswer → Val
+mach_z r = vstruct (vcons (mach_a r.answer) (vcons (mach r.seats) vnil))
 
 abbrev made : ClassAnswer → List Module → SeatsAnswer
 made t zs = record { answer = t; seats = zs }
 
-told-by : (ss : List Module) (vs : List Val) → Is seats-row ss vs → vs ≡ av ss
-told-by = Array-Tells R (LL.vals K.the_type K'.the_laws) (LL.tells K.the_type K'.the_laws) N
+told_by_lem : (ss : List Module) (vs : List Val) → Is seats_row ss vs → vs ≡ av ss
+told_by_lem = Array-Tells R (LL.vals K.the_type K'.the_laws) (LL.tells K.the_type K'.the_laws) N
 
 -- a field that is an array of structs is an array of their tuples
 abbrev tuples : RattleType
@@ -111,18 +111,18 @@ each_in [] (u ∷ us) p = absurd p
 each_in (z ∷ zs) [] p = absurd p
 each_in (z ∷ zs) (u ∷ us) p = (p.0, each_in zs us p.1)
 
-is_made : (t : ClassAnswer) (zs : List Module) → Is Y.the_row t (machA t ∷ []) → Is seats-row zs (mach zs ∷ []) → Is Z.the_row (made t zs) (machZ (made t zs) ∷ [])
-is_made t zs is-t p = ((machA t ∷ [], (mach zs ∷ [], tt)), (refl, (is-t, ((p.0, ((p.1.0.0, length-map zs (K.the_type).to ∙ p.1.0.1), each_in zs p.0 p.1.1)), tt))))
+is_made : (t : ClassAnswer) (zs : List Module) → Is Y.the_row t (mach_a t ∷ []) → Is seats_row zs (mach zs ∷ []) → Is Z.the_row (made t zs) (mach_z (made t zs) ∷ [])
+is_made t zs is-t p = ((mach_a t ∷ [], (mach zs ∷ [], tt)), (refl, (is-t, ((p.0, ((p.1.0.0, length-map zs (K.the_type).to ∙ p.1.0.1), each_in zs p.0 p.1.1)), tt))))
 
 abbrev stayed : Stays (lend-seats.ended).signature.params (lend-seats.ended).kept
-stayed = (stay_none (λ _. seats-row) yes, (stay_none (λ _. usize) yes, (gave_slice (0 ∷ []) tt (plain (λ _. u8)), (stay_none_slice (1 ∷ []) tt (plain (λ _. u8)) yes, (gave_slice (2 ∷ []) tt (plain (λ _. u8)), tt)))))
+stayed = (stay_none (λ _. seats_row) yes, (stay_none (λ _. usize) yes, (gave_slice (0 ∷ []) tt (plain (λ _. u8)), (stay_none_slice (1 ∷ []) tt (plain (λ _. u8)) yes, (gave_slice (2 ∷ []) tt (plain (λ _. u8)), tt)))))
 
 -- the contract that the proof cites
 abbrev Stepped : {M : Type 1} {𝓤 : Ura M} (𝓛 : Logic 𝓤) (mem : Memory → SProp 𝓤) (run : Routine → Fun 𝓤) → Contract 𝓤
 Stepped 𝓛 mem run = triple_of 𝓛 class-step.signature (class-step.spec 𝓛 mem run)
 
 module _ {M : Type 1} {𝓤 : Ura M} (𝓛 : Logic 𝓤) (at_mem : Memory → SProp 𝓤) (run : Routine → Fun 𝓤) (κl κm κr : Lft) (ql qm qr : Share) (ss : List Module)
-    (is : Is seats-row ss (mach ss ∷ [])) (n : ℕ) (n-fits : n < 2 ^ 64) (bl ol : ℕ) (γl : GName) (ls : List ℕ) (bm om : ℕ) (γm : GName) (ms : List ℕ) (br or : ℕ) (γr : GName) (rs : List ℕ) where
+    (is : Is seats_row ss (mach ss ∷ [])) (n : ℕ) (n-fits : n < 2 ^ 64) (bl ol : ℕ) (γl : GName) (ls : List ℕ) (bm om : ℕ) (γm : GName) (ms : List ℕ) (br or : ℕ) (γr : GName) (rs : List ℕ) where
   open 𝓛 use {H}
 
   abbrev xl : MutBor (List ℕ)
@@ -152,7 +152,7 @@ module _ {M : Type 1} {𝓤 : Ura M} (𝓛 : Logic 𝓤) (at_mem : Memory → SP
   abbrev Post : Val → SProp 𝓤
   Post = (walk_of 𝓛 lend-seats.ended stayed (lend-seats.clauses 𝓛 at_mem run)).post (((κl, (κm, (κr, tt))), (ql, (qm, (qr, tt))), tt, a, vals), tt)
 
-  typed_at : (zs : List Module) (v : Val) → Is seats-row zs (v ∷ []) → T (has_ty arr v) × WT v
+  typed_at : (zs : List Module) (v : Val) → Is seats_row zs (v ∷ []) → T (has_ty arr v) × WT v
   typed_at zs v p = (Array-Typed R (LL.lawful K.the_type K'.the_laws 𝓛).typed N zs (v ∷ []) p).0
 
   -- what `class_step` says of the answer, the row, the links and the room
@@ -172,20 +172,20 @@ module _ {M : Type 1} {𝓤 : Ura M} (𝓛 : Logic 𝓤) (at_mem : Memory → SP
   abbrev OwnMsg : Fml
   OwnMsg = (ShrSlice (named 1) κm u8).own_val xm (sm ∷ [])
 
-  exits : (t : ClassAnswer) (zs : List Module) (zl zr : List ℕ) → Is Z.the_row (made t zs) (machZ (made t zs) ∷ []) → length zl ≡ length ls → length zr ≡ length rs → SeatsCome (first_of ss n ls ms rs) (made t zs) zl zr
-      → ent 𝓤 (⋆ 𝓛 (‵ (flft κr qr) ∷ ‵ (flft κm qm) ∷ ‵ (flft κl ql) ∷ ‵ (finally u8 γr zr) ∷ ‵ (finally u8 γl zl) ∷ ‵ OwnMsg ∷ [])) (Post (machZ (made t zs)))
+  exits : (t : ClassAnswer) (zs : List Module) (zl zr : List ℕ) → Is Z.the_row (made t zs) (mach_z (made t zs) ∷ []) → length zl ≡ length ls → length zr ≡ length rs → SeatsCome (first_of ss n ls ms rs) (made t zs) zl zr
+      → ent 𝓤 (⋆ 𝓛 (‵ (flft κr qr) ∷ ‵ (flft κm qm) ∷ ‵ (flft κl ql) ∷ ‵ (finally u8 γr zr) ∷ ‵ (finally u8 γl zl) ∷ ‵ OwnMsg ∷ [])) (Post (mach_z (made t zs)))
   exits t zs zl zr is-z el er e =
       qed 𝓛 (‵ (flft κr qr) ∷ ‵ (flft κm qm) ∷ ‵ (flft κl ql) ∷ ‵ (finally u8 γr zr) ∷ ‵ (finally u8 γl zl) ∷ ‵ OwnMsg ∷ []) ∵
-      suffices ! _ (ends_at 𝓛 lend-seats.ended stayed (lend-seats.clauses 𝓛 at_mem run) (((κl, (κm, (κr, tt))), (ql, (qm, (qr, tt))), tt, a, vals), tt) (machZ (made t zs)) (made t zs) (tt, (tt, (zl, (tt, (zr, tt)))))
+      suffices ! _ (ends_at 𝓛 lend-seats.ended stayed (lend-seats.clauses 𝓛 at_mem run) (((κl, (κm, (κr, tt))), (ql, (qm, (qr, tt))), tt, a, vals), tt) (mach_z (made t zs)) (made t zs) (tt, (tt, (zl, (tt, (zr, tt)))))
       (tt, (tt, (el, (tt, (er, tt)))))) $ says ! e $
       nothing ! $ move ! (1 ∷ 0 ∷ []) $ join ! $ move ! (1 ∷ 0 ∷ []) $ join ! $ move ! (1 ∷ 0 ∷ []) $ join ! $ frame ! $
       nothing ! $ move ! (1 ∷ 0 ∷ []) $ fjoin ! $ move ! (2 ∷ 0 ∷ []) $ fjoin ! $ move ! (1 ∷ 0 ∷ []) $ fjoin ! $
       owned ! usize (Is usize) (uint_Makes 𝓛 w64) n _ (refl, n-fits) $ fjoin ! $
-      owned ! seats-row (Is seats-row) (Array-Makes 𝓛 R (LL.makes K.the_type K'.the_plain 𝓛) N) ss _ is $ fjoin ! $ frame ! $
+      owned ! seats_row (Is seats_row) (Array-Makes 𝓛 R (LL.makes K.the_type K'.the_plain 𝓛) N) ss _ is $ fjoin ! $ frame ! $
       owned ! Z.the_row (Is Z.the_row) (LL.makes Z.the_type Z'.the_plain 𝓛) (made t zs) _ is-z $ done !
 
-  few-fit : n ≤ N → Room R n
-  few-fit h = (omega (arith, h), omega (arith, h))
+  few_fit : n ≤ N → Room R n
+  few_fit h = (omega (arith, h), omega (arith, h))
 
   module _ (C : Calls 𝓤 H) (Λ : Loops 𝓤 H) (fm : FmC 𝓤 H 𝓛.laws C) (known : Triple 𝓤 (C #class-step) (Stepped 𝓛 at_mem run)) (room-l : Room u8 (length ls)) (room-m : Room u8 (length ms))
       (room-r : Room u8 (length rs)) where
@@ -218,7 +218,7 @@ module _ {M : Type 1} {𝓤 : Ura M} (𝓛 : Logic 𝓤) (at_mem : Memory → SP
     walk : n ≤ N → ent 𝓤 (on_entry 𝓛 lend-seats.signature (κl, (κm, (κr, tt))) (ql, (qm, (qr, tt))) a vals) (WpFn 𝓤 H C Λ code.function (mach ss ∷ vint w64 n ∷ sl ∷ sm ∷ sr ∷ []) Post)
     unfolding part_of
     walk few =
-        qed 𝓛 ((‵ (flft κl ql) ⊛ ‵ (flft κm qm) ⊛ ‵ (flft κr qr) ⊛ ‵ ftrue) ∷ ‵ (owns (seats-row ∷ usize ∷ MutSlice (named 0) κl u8 ∷ ShrSlice (named 1) κm u8 ∷ MutSlice (named 2) κr u8 ∷ []) a vals) ∷ []) ∵
+        qed 𝓛 ((‵ (flft κl ql) ⊛ ‵ (flft κm qm) ⊛ ‵ (flft κr qr) ⊛ ‵ ftrue) ∷ ‵ (owns (seats_row ∷ usize ∷ MutSlice (named 0) κl u8 ∷ ShrSlice (named 1) κm u8 ∷ MutSlice (named 2) κr u8 ∷ []) a vals) ∷ []) ∵
         enter ! C Λ code.function (mach ss ∷ vint w64 n ∷ sl ∷ sm ∷ sr ∷ []) _ $
         alloc1 ! (λ l₀. alloc1 ! (λ l₁. alloc1 ! (λ l₂. alloc1 ! (λ l₃. alloc1 ! (λ l₄. alloc1 ! (λ l₅. alloc1 ! (λ l₆.
         alloc1 ! (λ l₇. alloc1 ! (λ l₈. alloc1 ! (λ l₉. alloc1 ! (λ l₁₀. alloc1 ! (λ l₁₁. alloc1 ! (λ l₁₂. alloc1 ! (λ l₁₃. alloc1 ! (λ l₁₄. alloc0 ! $ params1 ! $
@@ -236,15 +236,15 @@ module _ {M : Type 1} {𝓤 : Ura M} (𝓛 : Logic 𝓤) (at_mem : Memory → SP
         -- what the parameters own, and the tokens
         move ! (31 ∷ []) $ fsplit ! $ drop ! $ fsplit ! $ drop ! $ fsplit ! $ move ! (1 ∷ []) $ fsplit ! $ move ! (1 ∷ []) $ fsplit ! $ move ! (34 ∷ []) $ split ! $ move ! (1 ∷ []) $ split ! $ move ! (1 ∷ []) $ split ! $
         -- [room's token; true; msg's; links'; what room owns; true; msg; links; _14; …]
-        owned ! seats-row (Is seats-row) (Array-Makes 𝓛 R (LL.makes K.the_type K'.the_plain 𝓛) N) ss _ is $
-        move ! (25 ∷ []) $ use1 𝓛 (‵ (cell_at full_share seats-row.mir (mach ss ∷ []) l₆ 0)) (𝓛.laws.at_raw full_share arr l₆ 0 (mach ss)) $ fjoin ! $
-        fpack ! (List Val) (λ vs. fsep (cell_at full_share seats-row.mir vs l₆ 0) (seats-row.own_val ss vs)) (mach ss ∷ []) $
+        owned ! seats_row (Is seats_row) (Array-Makes 𝓛 R (LL.makes K.the_type K'.the_plain 𝓛) N) ss _ is $
+        move ! (25 ∷ []) $ use1 𝓛 (‵ (cell_at full_share seats_row.mir (mach ss ∷ []) l₆ 0)) (𝓛.laws.at_raw full_share arr l₆ 0 (mach ss)) $ fjoin ! $
+        fpack ! (List Val) (λ vs. fsep (cell_at full_share seats_row.mir vs l₆ 0) (seats_row.own_val ss vs)) (mach ss ∷ []) $
         use1 𝓛 (‵ ((arr_parts (shares R) N).part full_share ss l₆ 0)) (Array-apart 𝓛 R full_share tt N ss l₆ 0) $ fsplit ! $ feq_l ! (λ e.
         use1 𝓛 (‵ (row R full_share (take n ss) l₆ 0) ⊛ ‵ (row R full_share behind l₆ (place (mem R).size 0 n))) (cut 𝓛 R full_share l₆ n ss 0 (inside e)) $ split ! $
         use1 𝓛 (‵ (cells (mem R) (take n ss) l₆ 0)) (whole_in 𝓛 R (take n ss) l₆ 0) $
         lft_new ! tt (λ ν. move ! (1 ∷ []) $
         use1 𝓛 (later (some (λ (γ : GName). ‵ ((MutSlice (named 0) (ν ∷ []) R).own_val (x l₆ γ) (slice_val (l₆, 0) (length (take n ss)) ∷ [])) ⊛ ‵ (flent (ν ∷ []) (Held R (length (take n ss)) l₆ 0 γ)))))
-        (lends_slice 𝓛 R (named 0) (ν ∷ []) (take n ss) l₆ 0 (subst (Room R) (sym (so-many e)) (few-fit few))) $ await ! tt $ pick ! (λ γ. split ! $
+        (lends_slice 𝓛 R (named 0) (ν ∷ []) (take n ss) l₆ 0 (subst (Room R) (sym (so-many e)) (few_fit few))) $ await ! tt $ pick ! (λ γ. split ! $
         rewrite ! 0 (λ (k : ℕ). ‵ ((MutSlice (named 0) (ν ∷ []) R).own_val (x l₆ γ) (slice_val (l₆, 0) k ∷ []))) (so-many e) refl $
         -- [what the row owns; the lender's part; its token; the places behind; room's token; true; msg's; links'; what room owns; true; msg; links; _14; …]
         move ! (10 ∷ []) $ use1 𝓛 (‵ OwnMsg ⊛ ‵ OwnMsg) ((shr_slice_copy 𝓛 (named 1) κm u8).twice xm (sm ∷ [])) $ split ! $
@@ -267,8 +267,8 @@ module _ {M : Type 1} {𝓤 : Ura M} (𝓛 : Logic 𝓤) (at_mem : Memory → SP
         -- [room's last list; true; links'; the row's; the tokens and the answer; msg's; the lender's part; true; true; _14; …]
         move ! (4 ∷ []) $ split ! $ split ! $ move ! (1 ∷ []) $ split ! $ move ! (1 ∷ []) $ split ! $ move ! (1 ∷ []) $ split ! $ move ! (5 ∷ []) $ facts ! Y.the_row (Is Y.the_row) (shows 𝓛 Y.the_row) t (w ∷ []) (λ is-w.
         -- [room's token; true; msg's; links'; the row's; room's last list; true; links'; the row's; msg's; the lender's part; true; true; _14; …]
-        land ! (from ! (stop !)) (init ! 28 {τ = Y'.mir} {b = l₇} {o = 0} {v = w} refl (typed-answer 𝓛 t w is-w)) $
-        rewrite ! 28 (λ (u : Val). ‵ (fat full_share Y'.mir l₇ 0 u)) (ap only (tells-machA t (w ∷ []) is-w)) refl $
+        land ! (from ! (stop !)) (init ! 28 {τ = Y'.mir} {b = l₇} {o = 0} {v = w} refl (typed_answer 𝓛 t w is-w)) $
+        rewrite ! 28 (λ (u : Val). ‵ (fat full_share Y'.mir l₇ 0 u)) (ap only (tells_mach_a t (w ∷ []) is-w)) refl $
         move ! (4 ∷ []) $ lft_end ! tt $ move ! (0 ∷ 10 ∷ 8 ∷ []) $ use3 𝓛 (later (‵ ((Arr (mem R) (length (take n ss))).own_at back l₆ 0))) (slice_back 𝓛 R (ν ∷ []) γ back (length (take n ss)) l₆ 0) $ await ! tt $
         fsplit ! $ drop ! $
         -- the elements are an array again, which is read whole
@@ -276,21 +276,21 @@ module _ {M : Type 1} {𝓤 : Ura M} (𝓛 : Logic 𝓤) (at_mem : Memory → SP
         rewrite ! 9 (λ (k : ℕ). ‵ (row R full_share behind l₆ (place (mem R).size 0 k))) (sym (same ∙ so-many e)) refl $
         move ! (0 ∷ 9 ∷ []) $ use2 𝓛 (‵ (row R full_share all_back l₆ 0)) (glue 𝓛 R full_share l₆ back behind 0) $
         feq_i ! ℕ (length all_back) N (all_there e back same) $ fjoin ! $
-        use1 𝓛 (‵ (part_at seats-row full_share all_back l₆ 0)) (Array-whole 𝓛 R full_share N all_back l₆ 0) $
-        fpick ! (λ vs. fsplit ! $ move ! (1 ∷ []) $ facts ! seats-row (Is seats-row) (shows 𝓛 seats-row) all_back vs (λ p.
-        rewrite ! 0 (λ (us : List Val). ‵ (cell_at full_share seats-row.mir us l₆ 0)) (told-by all_back vs p) refl $
+        use1 𝓛 (‵ (part_at seats_row full_share all_back l₆ 0)) (Array-whole 𝓛 R full_share N all_back l₆ 0) $
+        fpick ! (λ vs. fsplit ! $ move ! (1 ∷ []) $ facts ! seats_row (Is seats_row) (shows 𝓛 seats_row) all_back vs (λ p.
+        rewrite ! 0 (λ (us : List Val). ‵ (cell_at full_share seats_row.mir us l₆ 0)) (told_by_lem all_back vs p) refl $
         use1 𝓛 (‵ (fat full_share arr l₆ 0 (mach all_back))) (𝓛.laws.raw_at full_share arr l₆ 0 (mach all_back)) $
         -- [_6; room's token; true; msg's; links'; room's last list; true; links'; msg's; true; true; _14; …]
         assigns ! (of_opd ! (load ! (from ! (stop !)) (look ! 0 refl))) (from ! (stop !)) (init ! 11 refl (typed_at all_back _ (whole_is all_back vs p))) $
         assigns ! (agg ! (and_then ! (load ! (from ! (stop !)) (look ! 25 refl)) (and_then ! (load ! (from ! (stop !)) (look ! 11 refl)) (no_more !)))) (from ! (stop !))
-        (init ! 38 refl ((LL.lawful Z.the_type Z'.the_laws 𝓛).typed (made t all_back) _ (is_made t all_back (told-answer t w is-w) (whole_is all_back vs p))).0) $
+        (init ! 38 refl ((LL.lawful Z.the_type Z'.the_laws 𝓛).typed (made t all_back) _ (is_made t all_back (told_answer t w is-w) (whole_is all_back vs p))).0) $
         returns ! (look ! 38 refl) $ forget ! 0 refl $ forget ! 11 refl $ forget ! 13 refl $ forget ! 15 refl $ forget ! 17 refl $ forget ! 19 refl $ forget ! 21 refl $ forget ! 23 refl $ forget ! 25 refl $ forget ! 28 refl $
         forget ! 30 refl $ forget ! 32 refl $ forget ! 34 refl $ forget ! 36 refl $ forget ! 38 refl $
         move ! (38 ∷ 39 ∷ []) $ free1 ! $ move ! (36 ∷ 37 ∷ []) $ free1 ! $ move ! (34 ∷ 35 ∷ []) $ free1 ! $ move ! (32 ∷ 33 ∷ []) $ free1 ! $ move ! (30 ∷ 31 ∷ []) $ free1 ! $ move ! (28 ∷ 29 ∷ []) $ free1 ! $
         move ! (0 ∷ 27 ∷ []) $ free1 ! $
         move ! (24 ∷ 25 ∷ []) $ free1 ! $ move ! (22 ∷ 23 ∷ []) $ free1 ! $ move ! (20 ∷ 21 ∷ []) $ free1 ! $ move ! (18 ∷ 19 ∷ []) $ free1 ! $ move ! (16 ∷ 17 ∷ []) $ free1 ! $ move ! (14 ∷ 15 ∷ []) $ free1 ! $
         move ! (12 ∷ 13 ∷ []) $ free1 ! $ move ! (10 ∷ 11 ∷ []) $ free1 ! $ free0 ! $
-        keep ! (0 ∷ 2 ∷ 3 ∷ 4 ∷ 6 ∷ 7 ∷ []) $ by ! (exits t all_back back_l back-r (is_made t all_back (told-answer t w is-w) (whole_is all_back vs p)) el er (comes t back back_l back-r said))))))))))))))))))))))))))))))
+        keep ! (0 ∷ 2 ∷ 3 ∷ 4 ∷ 6 ∷ 7 ∷ []) $ by ! (exits t all_back back_l back-r (is_made t all_back (told_answer t w is-w) (whole_is all_back vs p)) el er (comes t back back_l back-r said))))))))))))))))))))))))))))))
       where
         inside : length ss ≡ N → n ≤ length ss
         inside e = omega (arith, e, few)
@@ -304,17 +304,17 @@ module _ {M : Type 1} {𝓤 : Ura M} (𝓛 : Logic 𝓤) (at_mem : Memory → SP
             let rest : length behind ≡ length ss - n = length-drop n ss in
             length-append zs behind ∙ omega (arith, first_part, rest, e, few)
 
-        whole_is : (zs : List Module) (vs : List Val) → Is seats-row zs vs → Is seats-row zs (mach zs ∷ [])
-        whole_is zs vs p = subst (Is seats-row zs) (told-by zs vs p) p
+        whole_is : (zs : List Module) (vs : List Val) → Is seats_row zs vs → Is seats_row zs (mach zs ∷ [])
+        whole_is zs vs p = subst (Is seats_row zs) (told_by_lem zs vs p) p
 
 module _ {M : Type 1} {𝓤 : Ura M} (𝓛 : Logic 𝓤) (mem : Memory → SProp 𝓤) (run : Routine → Fun 𝓤) where
   open 𝓛 use {H}
 
-  lend-seats-walks : (C : Calls 𝓤 H) (Λ : Loops 𝓤 H) → FmC 𝓤 H 𝓛.laws C → Triple 𝓤 (C #class-step) (Stepped 𝓛 mem run)
+  lend_seats_walks : (C : Calls 𝓤 H) (Λ : Loops 𝓤 H) → FmC 𝓤 H 𝓛.laws C → Triple 𝓤 (C #class-step) (Stepped 𝓛 mem run)
       → Walks 𝓛 lend-seats.ended stayed (WpFn 𝓤 H C Λ code.function) (lend-seats.clauses 𝓛 mem run)
-  lend-seats-walks C Λ fm known = walked 𝓛 lend-seats.ended stayed (lend-seats.clauses 𝓛 mem run) (WpFn 𝓤 H C Λ code.function)
+  lend_seats_walks C Λ fm known = walked 𝓛 lend-seats.ended stayed (lend-seats.clauses 𝓛 mem run) (WpFn 𝓤 H C Λ code.function)
       (λ κs. (av, (uint_vals w64, (shr_slice_vals, (shr_slice_vals, (shr_slice_vals, tt))))))
-      (λ κs. (told-by, (uint_Tells w64, (mut_slice_Tells (named 0) κs.0 u8, (shr_slice_Tells (named 1) κs.1.0 u8, (mut_slice_Tells (named 2) κs.1.1.0 u8, tt))))))
+      (λ κs. (told_by_lem, (uint_Tells w64, (mut_slice_Tells (named 0) κs.0 u8, (shr_slice_Tells (named 1) κs.1.0 u8, (mut_slice_Tells (named 2) κs.1.1.0 u8, tt))))))
       (λ κs qs bounds a g are.
       let links : Bor (List ℕ) = a.1.1.0 in
       let message : Bor (List ℕ) = a.1.1.1.0 in
@@ -324,20 +324,20 @@ module _ {M : Type 1} {𝓤 : Ura M} (𝓛 : Logic 𝓤) (mem : Memory → SProp
       links.ref_ptr.0 links.ref_ptr.1 links.name links.now message.ptr.0 message.ptr.1 message.name message.now
       lent.ptr.0 lent.ptr.1 lent.name lent.now C Λ fm known are.1.1.0.0.1 are.1.1.1.0.0.1 are.1.1.1.1.0.0.1))
 
-lend-seats-meets : {M : Type 1} {𝓤 : Ura M} (𝓛 : Logic 𝓤) → (mem : Memory → SProp 𝓤) (run : Routine → Fun 𝓤) (𝓣 : Tables 𝓤 𝓛.H)
+lend_seats_meets : {M : Type 1} {𝓤 : Ura M} (𝓛 : Logic 𝓤) → (mem : Memory → SProp 𝓤) (run : Routine → Fun 𝓤) (𝓣 : Tables 𝓤 𝓛.H)
     → Triple 𝓤 (𝓣.C #class-step) (Stepped 𝓛 mem run)
     → Meets 𝓛 lend-seats.signature (WpFn 𝓤 𝓛.H 𝓣.C 𝓣.Λ code.function) (lend-seats.spec 𝓛 mem run)
-lend-seats-meets {𝓤 = 𝓤} 𝓛 mem run 𝓣 known =
+lend_seats_meets {𝓤 = 𝓤} 𝓛 mem run 𝓣 known =
     walk_Meets 𝓛 lend-seats.ended stayed (
-      Goes-none 𝓛 3 (λ _. seats-row) yes (λ κs x f. refl),
+      Goes-none 𝓛 3 (λ _. seats_row) yes (λ κs x f. refl),
       (Goes-none 𝓛 3 (λ _. usize) yes (λ κs x f. refl), (Goes-gave_slice 𝓛 3 0 tt (plain (λ _. u8)), (Goes-none_slice 𝓛 3 (1 ∷ []) tt (plain (λ _. u8)) yes, (Goes-gave_slice 𝓛 3 2 tt (plain (λ _. u8)), tt)))),
     ) (lend-seats.clauses 𝓛 mem run)
-    (WpFn 𝓤 𝓛.H 𝓣.C 𝓣.Λ code.function) (WpFn-mono 𝓤 𝓛.H 𝓛.laws 𝓣 code.function) (lend-seats-walks 𝓛 mem run 𝓣.C 𝓣.Λ (fm_of 𝓤 𝓛.H 𝓛.laws 𝓣) known)
+    (WpFn 𝓤 𝓛.H 𝓣.C 𝓣.Λ code.function) (WpFn-mono 𝓤 𝓛.H 𝓛.laws 𝓣 code.function) (lend_seats_walks 𝓛 mem run 𝓣.C 𝓣.Λ (fm_of 𝓤 𝓛.H 𝓛.laws 𝓣) known)
 
-pub lend-seats-spec : {M : Type 1} → stated.statement M
+pub lend_seats_spec : {M : Type 1} → stated.statement M
 unfolding code.routine tables_of
-lend-seats-spec 𝓤 𝓛 𝓜 𝓡 =
+lend_seats_spec 𝓤 𝓛 𝓜 𝓡 =
     entered 𝓤 𝓛.H (triple_of 𝓛 lend-seats.signature (lend-seats.spec 𝓛 𝓜.mem 𝓡.run))
     (tables 𝓤 𝓛.H 𝓜 𝓡 code.env).C (tables 𝓤 𝓛.H 𝓜 𝓡 code.env).Λ #lend-seats code.function (code.unfolded 𝓤 𝓛.H 𝓜 𝓡)
-    (lend-seats-meets 𝓛 𝓜.mem 𝓡.run (tables_of 𝓤 𝓛.H 𝓜 (tables 𝓤 𝓛.H 𝓜 𝓡 code.env))
+    (lend_seats_meets 𝓛 𝓜.mem 𝓡.run (tables_of 𝓤 𝓛.H 𝓜 (tables 𝓤 𝓛.H 𝓜 𝓡 code.env))
     (cited 𝓤 𝓛.H (Stepped 𝓛 𝓜.mem 𝓡.run) 𝓜 𝓡 code.env #class-step class-step-def.routine code.calls-class::step::class-step (class-step-thm.met 𝓤 𝓛 𝓜 𝓡)))

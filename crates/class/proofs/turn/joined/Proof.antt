@@ -5,9 +5,9 @@ use Rattle.basis.specs.Choice.{choose}
 use Rattle.class.proofs.turn.joined.Statement.{statement}
 use Rattle.class.proofs.turn.joined.Tie as tie
 
-pub joined-spec : {M : Type 1} → statement M
+pub joined_spec : {M : Type 1} → statement M
 unfolding choose
-joined-spec =
+joined_spec =
     tie.close
     (tie.spec
     (λ c κs. search rules)

@@ -22,8 +22,8 @@ last c =
     let few : ltb 16 t.task.seats ≡ false = le-ltb 16 t.task.seats (omega arith) in
     rw (le-ltb _ _ c.before.if1.false) (rw (named.with-name.ensures, few) at c.settle.ensures)
 
-pub noted-spec : {M : Type 1} → statement M
-noted-spec =
+pub noted_spec : {M : Type 1} → statement M
+noted_spec =
     tie.close
     (tie.spec
     (λ c. search rules)

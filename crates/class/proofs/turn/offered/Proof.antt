@@ -7,5 +7,5 @@ returns c =
     let told = c.before.before.before.before.before in
     rw told.joined.ensures
 
-pub offered-spec : {M : Type 1} → statement M
-offered-spec = tie.close (tie.spec (λ c κs. search rules) (λ c. search rules) (λ c. search rules) returns)
+pub offered_spec : {M : Type 1} → statement M
+offered_spec = tie.close (tie.spec (λ c κs. search rules) (λ c. search rules) (λ c. search rules) returns)

@@ -11,8 +11,8 @@ returns c =
     let g = lent.before.before.before.args in
     put_back g.m g.t g.heard g.links.now g.room.now answered.serve.result _ _ answered.serve.ensures
 
-pub step-in-spec : {M : Type 1} → statement M
-step-in-spec =
+pub step_in_spec : {M : Type 1} → statement M
+step_in_spec =
     tie.close
     (tie.spec
     (λ c. search rules)

@@ -2,12 +2,12 @@ use Prim.Native.Nat.{ℕ, ◌≤◌}
 use mathlib.Core.Path.{refl, sym, subst, ap}
 use native.Mathlib.Omega.{arith}
 use borrow.Author.Rules.{rules}
-use Rattle.device.proofs.Counted.{most-read}
+use Rattle.device.proofs.Counted.{most_read}
 use Rattle.row.specs.declared.progress.Round.{Round}
 use Rattle.class.specs.declared.turn.Tended.{Tended}
-use Rattle.class.specs.Seat.{shareAt}
+use Rattle.class.specs.Seat.{share_at}
 use Rattle.class.specs.Turns.{served, offered}
-use Rattle.class.proofs.Shared.{goes_on, by-round}
+use Rattle.class.proofs.Shared.{goes_on, by_round}
 use Rattle.class.proofs.turn.turn.Statement.{statement}
 use Rattle.class.proofs.turn.turn.Tie as tie
 
@@ -19,14 +19,14 @@ offered-requires c κs =
     let start = met.before.before.before.before in
     let g = start.args in
     let few : stepped.step-in2.result.read ≤ 256 =
-    subst (λ (n : ℕ). n ≤ 256) (sym stepped.step-in2.ensures.read) (most-read g.m (shareAt g.t.task.share g.t.seat g.links.now) g.heard g.room.now) in
+    subst (λ (n : ℕ). n ≤ 256) (sym stepped.step-in2.ensures.read) (most_read g.m (share_at g.t.task.share g.t.seat g.links.now) g.heard g.room.now) in
     (omega (arith, start.requires.inside, start.requires.few), start.requires.counted, few)
 
 notes : tie.Need-returns
 notes c =
     let met = c.before in
     let g = met.before.before.before.before.args in
-    by-round g.m g.t g.heard g.links.now g.room.now Round.Note met.enum_told.given.1
+    by_round g.m g.t g.heard g.links.now g.room.now Round.Note met.enum_told.given.1
     (record {
       went = ap (λ (z : Tended). z.progress) c.note.ensures;
       stays = ap (λ (z : Tended). z.next) c.note.ensures;
@@ -39,7 +39,7 @@ serves c =
     let stepped = c.before.before.before.before.before in
     let met = stepped.before.before.before in
     let g = met.before.before.before.before.args in
-    by-round g.m g.t g.heard g.links.now g.room.now Round.One met.enum-told2.given.1
+    by_round g.m g.t g.heard g.links.now g.room.now Round.One met.enum-told2.given.1
     (goes_on _ stepped.step_in.result _ _ stepped.step_in.ensures (served g.t) c.served.result c.served.ensures)
 
 offers : tie.Need-returns-3
@@ -47,7 +47,7 @@ offers c =
     let stepped = c.before.before.before.before.before in
     let met = stepped.before.before.before in
     let g = met.before.before.before.before.args in
-    by-round g.m g.t g.heard g.links.now g.room.now Round.All met.enum-told3.given.1
+    by_round g.m g.t g.heard g.links.now g.room.now Round.All met.enum-told3.given.1
     (goes_on _ stepped.step-in2.result _ _ stepped.step-in2.ensures (offered g.t) c.offered.result c.offered.ensures)
 
 pub turn_spec : {M : Type 1} → statement M

@@ -3,8 +3,8 @@ use borrow.Author.Rules.{rules}
 use Rattle.decide.proofs.dispatch.deed_of.Statement.{statement}
 use Rattle.decide.proofs.dispatch.deed_of.Tie as tie
 
-pub deed-of-spec : {M : Type 1} → statement M
-deed-of-spec =
+pub deed_of_spec : {M : Type 1} → statement M
+deed_of_spec =
     tie.close
     (tie.spec
     (λ c κs. search rules)

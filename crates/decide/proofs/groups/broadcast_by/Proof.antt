@@ -2,8 +2,8 @@ use borrow.Author.Rules.{rules}
 use Rattle.decide.proofs.groups.broadcast_by.Statement.{statement}
 use Rattle.decide.proofs.groups.broadcast_by.Tie as tie
 
-pub broadcast-by-spec : {M : Type 1} → statement M
-broadcast-by-spec =
+pub broadcast_by_spec : {M : Type 1} → statement M
+broadcast_by_spec =
     tie.close
     (tie.spec
     (λ c. search rules)

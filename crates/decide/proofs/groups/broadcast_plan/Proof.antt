@@ -2,8 +2,8 @@ use borrow.Author.Rules.{rules}
 use Rattle.decide.proofs.groups.broadcast_plan.Statement.{statement}
 use Rattle.decide.proofs.groups.broadcast_plan.Tie as tie
 
-pub broadcast-plan-spec : {M : Type 1} → statement M
-broadcast-plan-spec =
+pub broadcast_plan_spec : {M : Type 1} → statement M
+broadcast_plan_spec =
     tie.close
     (tie.spec
     (λ c. search rules)

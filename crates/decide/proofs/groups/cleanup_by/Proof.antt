@@ -2,8 +2,8 @@ use borrow.Author.Rules.{rules}
 use Rattle.decide.proofs.groups.cleanup_by.Statement.{statement}
 use Rattle.decide.proofs.groups.cleanup_by.Tie as tie
 
-pub cleanup-by-spec : {M : Type 1} → statement M
-cleanup-by-spec =
+pub cleanup_by_spec : {M : Type 1} → statement M
+cleanup_by_spec =
     tie.close
     (tie.spec
     (λ c. search rules)

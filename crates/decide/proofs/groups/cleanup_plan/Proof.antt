@@ -2,8 +2,8 @@ use borrow.Author.Rules.{rules}
 use Rattle.decide.proofs.groups.cleanup_plan.Statement.{statement}
 use Rattle.decide.proofs.groups.cleanup_plan.Tie as tie
 
-pub cleanup-plan-spec : {M : Type 1} → statement M
-cleanup-plan-spec =
+pub cleanup_plan_spec : {M : Type 1} → statement M
+cleanup_plan_spec =
     tie.close
     (tie.spec
     (λ c. search rules)

@@ -2,8 +2,8 @@ use borrow.Author.Rules.{rules}
 use Rattle.decide.proofs.groups.is_call.Statement.{statement}
 use Rattle.decide.proofs.groups.is_call.Tie as tie
 
-pub is-call-spec : {M : Type 1} → statement M
-is-call-spec =
+pub is_call_spec : {M : Type 1} → statement M
+is_call_spec =
     tie.close
     (tie.spec
     (λ c. search rules)

@@ -4,9 +4,9 @@ use borrow.Author.Rules.{rules}
 use Rattle.decide.proofs.plan.broadcast_wanted.Statement.{statement}
 use Rattle.decide.proofs.plan.broadcast_wanted.Tie as tie
 
-pub broadcast-wanted-spec : {M : Type 1} → statement M
+pub broadcast_wanted_spec : {M : Type 1} → statement M
 unfolding choose
-broadcast-wanted-spec =
+broadcast_wanted_spec =
     tie.close
     (tie.spec
     (λ c κs. search rules)

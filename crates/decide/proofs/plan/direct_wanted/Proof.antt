@@ -4,9 +4,9 @@ use borrow.Author.Rules.{rules}
 use Rattle.decide.proofs.plan.direct_wanted.Statement.{statement}
 use Rattle.decide.proofs.plan.direct_wanted.Tie as tie
 
-pub direct-wanted-spec : {M : Type 1} → statement M
+pub direct_wanted_spec : {M : Type 1} → statement M
 unfolding choose
-direct-wanted-spec =
+direct_wanted_spec =
     tie.close
     (tie.spec
     (λ c κs. search rules)

@@ -2,8 +2,8 @@ use borrow.Author.Rules.{rules}
 use Rattle.decide.proofs.plan.wanted_of.Statement.{statement}
 use Rattle.decide.proofs.plan.wanted_of.Tie as tie
 
-pub wanted-of-spec : {M : Type 1} → statement M
-wanted-of-spec =
+pub wanted_of_spec : {M : Type 1} → statement M
+wanted_of_spec =
     tie.close
     (tie.spec
     (λ c. search rules)

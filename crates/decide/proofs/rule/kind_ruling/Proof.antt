@@ -2,8 +2,8 @@ use borrow.Author.Rules.{rules}
 use Rattle.decide.proofs.rule.kind_ruling.Statement.{statement}
 use Rattle.decide.proofs.rule.kind_ruling.Tie as tie
 
-pub kind-ruling-spec : {M : Type 1} → statement M
-kind-ruling-spec =
+pub kind_ruling_spec : {M : Type 1} → statement M
+kind_ruling_spec =
     tie.close
     (tie.spec
     (λ c κs. search rules)

@@ -2,8 +2,8 @@ use borrow.Author.Rules.{rules}
 use Rattle.decide.proofs.rule.read_ruling.Statement.{statement}
 use Rattle.decide.proofs.rule.read_ruling.Tie as tie
 
-pub read-ruling-spec : {M : Type 1} → statement M
-read-ruling-spec =
+pub read_ruling_spec : {M : Type 1} → statement M
+read_ruling_spec =
     tie.close
     (tie.spec
     (λ c. search rules)

@@ -3,7 +3,7 @@ use Rattle.std.proofs.Common.{sym, ap, ◌∙◌, arith, rules}
 use Rattle.basis.proofs.Counted.{counts}
 use Rattle.modem.specs.Frames.{framed}
 use Rattle.modem.proofs.Turned.{Shows, shows, refused}
-use Rattle.desk.specs.Desk.{satAt}
+use Rattle.desk.specs.Desk.{sat_at}
 use Rattle.desk.proofs.answer.answer.Statement.{statement}
 use Rattle.desk.proofs.answer.answer.Tie as tie
 
@@ -47,19 +47,19 @@ tell-requires c κs =
     let whole = counts r.sent left.1.1.1.0 s.lies in
     let reply = counts r.heeded.length left.1.1.0 s.stands in
     let frames = s.frames ∙ ap framed (sym s.reply) in
-    (whole, (reply, record { state = satAt g.desk g.links.now; lent = g.room.now; answer = s.answer; reply = s.reply; frames = frames }))
+    (whole, (reply, record { state = sat_at g.desk g.links.now; lent = g.room.now; answer = s.answer; reply = s.reply; frames = frames }))
 
 returns-2 : tie.Need-returns-2
 returns-2 c =
     let s = served c.before.before.before.before.before.before in
     let told = rw s.answer at c.answered.ensures in
     record {
-      served = λ h. record { state = λ i. satAt (told i) (s.memory i); tally = λ i. (told i).tally };
+      served = λ h. record { state = λ i. sat_at (told i) (s.memory i); tally = λ i. (told i).tally };
       cramped = λ h. absurd (omega (arith, s.enough));
     }
 
-pub answer-spec : {M : Type 1} → statement M
-answer-spec =
+pub answer_spec : {M : Type 1} → statement M
+answer_spec =
     tie.close
     (tie.spec
     (λ c κs. search rules)

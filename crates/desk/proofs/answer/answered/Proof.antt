@@ -7,5 +7,5 @@ returns c =
     let placed = c.before in
     rw (c.counted-for.ensures, placed.place_of.ensures, placed.before.counted.ensures) refl
 
-pub answered-spec : {M : Type 1} → statement M
-answered-spec = tie.close (tie.spec (λ c. search rules) (λ c κs. search rules) (λ c κs. search rules) (λ c κs. search rules) returns)
+pub answered_spec : {M : Type 1} → statement M
+answered_spec = tie.close (tie.spec (λ c. search rules) (λ c κs. search rules) (λ c κs. search rules) (λ c κs. search rules) returns)

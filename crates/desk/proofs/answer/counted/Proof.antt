@@ -7,7 +7,7 @@ use Rattle.desk.proofs.answer.counted.Tie as tie
 returns-2 : tie.Need-returns-2
 returns-2 c =
     let g = c.before.args in
-    sym (set_out g.tally g.i _ (omega (arith, c.before.well-formed.0)))
+    sym (set_out g.tally g.i _ (omega (arith, c.before.well_formed_lem.0)))
 
 pub counted_spec : {M : Type 1} → statement M
 counted_spec =

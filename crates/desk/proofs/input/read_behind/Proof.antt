@@ -25,8 +25,8 @@ returns-2 c = (tt, stays c.before.before.before.before.before.before.before.befo
 returns-3 : tie.Need-returns-3
 returns-3 c = (search rules, stays c.before.before.before.before.before.before.before.before)
 
-pub read-behind-spec : {M : Type 1} → statement M
-read-behind-spec =
+pub read_behind_spec : {M : Type 1} → statement M
+read_behind_spec =
     tie.close
     (tie.spec
     (λ c. search rules)

@@ -2,8 +2,8 @@
 use Rattle.std.proofs.Common.{◌≡◌, ◌+◌, sym, ap, ◌∙◌, arith, rules}
 use Rattle.basis.proofs.Laid.{rest}
 use Rattle.modem.specs.declared.arrived.Seen.{Seen}
-use Rattle.modem.specs.Arrived.{seekOf}
-use Rattle.desk.specs.Ahead.{further, seekBehind}
+use Rattle.modem.specs.Arrived.{seek_of}
+use Rattle.desk.specs.Ahead.{further, seek_behind}
 use Rattle.desk.proofs.Ahead.{next, none}
 use Rattle.desk.proofs.serve.seek_from.Statement.{statement}
 use Rattle.desk.proofs.serve.seek_from.Tie as tie
@@ -13,12 +13,12 @@ start sought = sought.before.before.before
 
 -- whichever it is
 abbrev SeenOf : tie.After-seek → Seen → Type 0
-SeenOf sought v = let g = (start sought).args in further g.used v ≡ seekBehind g.used g.arrived.now
+SeenOf sought v = let g = (start sought).args in further g.used v ≡ seek_behind g.used g.arrived.now
 
 found : (sought : tie.After-seek) (v : Seen) → sought.seek.result ≡ v → SeenOf sought v
 found sought v told =
     let g = (start sought).args in
-    ap (further g.used) (sym told ∙ sought.seek.ensures ∙ ap seekOf (rest g.used g.arrived.now))
+    ap (further g.used) (sym told ∙ sought.seek.ensures ∙ ap seek_of (rest g.used g.arrived.now))
 
 returns : tie.Need-returns
 returns c =
@@ -36,14 +36,14 @@ add_at c =
     let told = c.before.k.given in
     omega (arith, (next g.args.used g.args.arrived.now g.pre (g.args.used + told.0.0) told.0.1.0 (returns c)).lies)
 
-add-at-2 : tie.Need-overflow-add-at-2
-add-at-2 c =
+add_at_2 : tie.Need-overflow-add-at-2
+add_at_2 c =
     let g = start c.before.before.before in
     let told = c.before.k2.given in
     omega (arith, (none g.args.used g.args.arrived.now g.pre (g.args.used + told.0.0) (returns-2 c)).lies)
 
-pub seek-from-spec : {M : Type 1} → statement M
-seek-from-spec =
+pub seek_from_spec : {M : Type 1} → statement M
+seek_from_spec =
     tie.close
     (tie.spec
     (λ c. search rules)
@@ -53,6 +53,6 @@ seek-from-spec =
     (λ c. search rules)
     add_at
     (λ c. search rules)
-    add-at-2
+    add_at_2
     returns
     returns-2)

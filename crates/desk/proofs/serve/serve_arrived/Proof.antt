@@ -48,11 +48,11 @@ lies found =
     let g = turn.before.before.before.before.before.args in
     next turn.loop.used g.arrived.now turn.loop.invariant.0 _ _ (sym found.k2.given.1 ∙ sought.seek-from.ensures)
 
-add-end : tie.Need-overflow-add-end invariant-loop decreases-loop
-add-end c = omega (arith, lies c.before)
+add_end : tie.Need-overflow-add-end invariant-loop decreases-loop
+add_end c = omega (arith, lies c.before)
 
-part-answer-end : tie.Need-slice-bounds-answer-end invariant-loop decreases-loop
-part-answer-end c = omega (arith, lies c.before.before)
+part_answer_end : tie.Need-slice-bounds-answer-end invariant-loop decreases-loop
+part_answer_end c = omega (arith, lies c.before.before)
 
 loop-less : tie.Need-loop-smaller invariant-loop decreases-loop
 loop-less c =
@@ -88,8 +88,8 @@ returns-2 c =
     let at = c.before.loop in
     record { inside = at.invariant.0; passed = at.invariant.4; all = λ h. clash h c.loop-test.false }
 
-pub serve-arrived-spec : {M : Type 1} → statement M
-serve-arrived-spec =
+pub serve_arrived_spec : {M : Type 1} → statement M
+serve_arrived_spec =
     tie.close
     (tie.spec
     invariant-loop
@@ -102,10 +102,10 @@ serve-arrived-spec =
     (λ c. omega arith)
     returns
     (λ c. search rules)
-    add-end
+    add_end
     (λ c. omega arith)
     (λ c. omega arith)
-    part-answer-end
+    part_answer_end
     (λ c κs. search rules)
     loop-less
     loop-again

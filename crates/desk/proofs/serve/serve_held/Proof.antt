@@ -13,8 +13,8 @@ returns c =
     moved g.desk g.links.now g.room.now g.held.now served.new.1.1.0 keep.new.0
     served.result served.ensures keep.ensures keep.auto.0
 
-pub serve-held-spec : {M : Type 1} → statement M
-serve-held-spec =
+pub serve_held_spec : {M : Type 1} → statement M
+serve_held_spec =
     tie.close
     (tie.spec
     (λ c κs. search rules)

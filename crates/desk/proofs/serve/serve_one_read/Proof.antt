@@ -2,7 +2,7 @@
 use Rattle.std.proofs.Common.{ℕ, ◌≤◌, List, length, drop, arith, rules}
 use Rattle.io.specs.Counts.{IsPrefixLen}
 use Rattle.basis.proofs.Counted.{counts}
-use Rattle.desk.proofs.Held.{read-on, no_read}
+use Rattle.desk.proofs.Held.{read_on, no_read}
 use Rattle.desk.proofs.serve.serve_one_read.Statement.{statement}
 use Rattle.desk.proofs.serve.serve_one_read.Tie as tie
 
@@ -20,11 +20,11 @@ stands c =
     let kept = read.read_behind.auto in
     counts c.k.given.0.0 (held read) (omega arith)
 
-slice-relend-prefix-serve-held : tie.Need-slice-relend-prefix-serve-held
-slice-relend-prefix-serve-held c = (stands c.before.before).0
+slice_relend_prefix_serve_held : tie.Need-slice-relend-prefix-serve-held
+slice_relend_prefix_serve_held c = (stands c.before.before).0
 
-slice-aggregate-serve-held : tie.Need-slice-aggregate-serve-held
-slice-aggregate-serve-held c = (stands c.before.before.before).1
+slice_aggregate_serve_held : tie.Need-slice-aggregate-serve-held
+slice_aggregate_serve_held c = (stands c.before.before.before).1
 
 returns : tie.Need-returns
 returns c =
@@ -34,7 +34,7 @@ returns c =
     let g = (start read).args in
     let k = more.k.given.0.0 in
     let grown = rw more.k.given.1 at read.read_behind.ensures.0 in
-    read-on g.before g.links.now g.room.now g.held.now served.result served.new.1.1.0
+    read_on g.before g.links.now g.room.now g.held.now served.result served.new.1.1.0
     (held read) served.new.1.1.1.0 (drop k (held read)) k (omega arith) read.read_behind.ensures.1 served.ensures
 
 -- after a read that brought nothing
@@ -60,14 +60,14 @@ returns-3 c =
     no_read g.before g.links.now g.room.now g.held.now c.stopped2.result (held read)
     c.stopped2.ensures (there read) read.read_behind.ensures.1
 
-pub serve-one-read-spec : {M : Type 1} → statement M
-serve-one-read-spec =
+pub serve_one_read_spec : {M : Type 1} → statement M
+serve_one_read_spec =
     tie.close
     (tie.spec
     (λ c κs. search rules)
     (λ c. search rules)
-    slice-relend-prefix-serve-held
-    slice-aggregate-serve-held
+    slice_relend_prefix_serve_held
+    slice_aggregate_serve_held
     (λ c κs. search rules)
     (λ c. search rules)
     (λ c κs. search rules)

@@ -1,7 +1,7 @@
 -- Read after read, a desk that is open has less than a frame in hand, so that the next read has room.
 use Rattle.std.proofs.Common.{◌≡◌, length, take, refl, ◌∙◌, arith}
 use Rattle.desk.specs.Passed.{ReadPromise}
-use Rattle.desk.proofs.Held.{at_first, go_on, in-hand}
+use Rattle.desk.proofs.Held.{at_first, go_on_lem, in_hand}
 use Rattle.desk.proofs.serve.serve_until_end.Statement.{statement}
 use Rattle.desk.proofs.serve.serve_until_end.Tie as tie
 
@@ -27,7 +27,7 @@ serve-one-read-requires c κs =
     let at = going.before.before.loop in
     let start = going.before.before.before.before.before.before.before in
     let g = start.args in
-    let hand = in-hand _ at.p g.links.now g.room.now g.held.now at.links at.held at.invariant.4 going.if1.true in
+    let hand = in_hand _ at.p g.links.now g.room.now g.held.now at.links at.held at.invariant.4 going.if1.true in
     (omega (arith, start.requires, at.invariant.1, hand), omega (arith, start.requires, at.invariant.2, at.invariant.3))
 
 loop-again : tie.Need-loop-preserved invariant-loop decreases-loop
@@ -43,7 +43,7 @@ loop-again c =
       kept.1.0 ∙ at.invariant.1,
       kept.1.1.0 ∙ at.invariant.2,
       kept.1.1.1.0 ∙ at.invariant.3,
-      go_on _ at.p one.result g.links.now at.links left.0 g.room.now at.room g.held.now at.held left.1.0
+      go_on_lem _ at.p one.result g.links.now at.links left.0 g.room.now at.room g.held.now at.held left.1.0
           at.invariant.2 going.if1.true at.invariant.4 one.ensures,
     )
 
@@ -59,8 +59,8 @@ returns-2 c =
     let so_far = at.invariant.4 in
     record { read = so_far.read; after = at.p.desk; left = take at.p.count at.held; passed = so_far.served.passed }
 
-pub serve-until-end-spec : {M : Type 1} → statement M
-serve-until-end-spec =
+pub serve_until_end_spec : {M : Type 1} → statement M
+serve_until_end_spec =
     tie.close
     (tie.spec
     invariant-loop

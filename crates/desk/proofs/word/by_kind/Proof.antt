@@ -2,8 +2,8 @@ use Rattle.std.proofs.Common.{rules}
 use Rattle.desk.proofs.word.by_kind.Statement.{statement}
 use Rattle.desk.proofs.word.by_kind.Tie as tie
 
-pub by-kind-spec : {M : Type 1} → statement M
-by-kind-spec =
+pub by_kind_spec : {M : Type 1} → statement M
+by_kind_spec =
     tie.close
     (tie.spec
     (λ c. search rules)

@@ -4,9 +4,9 @@ use Rattle.desk.specs.Word.{one_word}
 use Rattle.desk.proofs.word.one_word.Statement.{statement}
 use Rattle.desk.proofs.word.one_word.Tie as tie
 
-pub one-word-spec : {M : Type 1} → statement M
+pub one_word_spec : {M : Type 1} → statement M
 unfolding one_word choose
-one-word-spec =
+one_word_spec =
     tie.close
     (tie.spec
     (λ c. search rules)

@@ -4,9 +4,9 @@ use Rattle.desk.specs.Word.{two_words}
 use Rattle.desk.proofs.word.two_words.Statement.{statement}
 use Rattle.desk.proofs.word.two_words.Tie as tie
 
-pub two-words-spec : {M : Type 1} → statement M
+pub two_words_spec : {M : Type 1} → statement M
 unfolding two_words choose
-two-words-spec =
+two_words_spec =
     tie.close
     (tie.spec
     (λ c. search rules)

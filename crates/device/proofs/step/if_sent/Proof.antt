@@ -3,8 +3,8 @@ use borrow.Author.Rules.{rules}
 use Rattle.device.proofs.step.if_sent.Statement.{statement}
 use Rattle.device.proofs.step.if_sent.Tie as tie
 
-pub if-sent-spec : {M : Type 1} → statement M
-if-sent-spec =
+pub if_sent_spec : {M : Type 1} → statement M
+if_sent_spec =
     tie.close
     (tie.spec
     (λ c. search rules)

@@ -16,8 +16,8 @@ returns c =
     (finished g.m g.links.now g.heard g.room.now ruled.ruling-by.result ruled.ruling-by.ensures sent.send.result _ sent.send.ensures
     kept.if-sent.result kept.if-sent.ensures _ c.apply.ensures _ written.write-planned.ensures)
 
-pub serve-spec : {M : Type 1} → statement M
-serve-spec =
+pub serve_spec : {M : Type 1} → statement M
+serve_spec =
     tie.close
     (tie.spec
     (λ c κs. search rules)

@@ -13,8 +13,8 @@ use Rattle.device.proofs.step.write_planned.Tie as tie
 some : (n : ℕ) → 5 + n - 5 ≡ n
 some n = omega arith
 
-pub write-planned-spec : {M : Type 1} → statement M
-write-planned-spec =
+pub write_planned_spec : {M : Type 1} → statement M
+write_planned_spec =
     tie.close
     (tie.spec
     (λ c. search rules)
@@ -34,4 +34,4 @@ write-planned-spec =
     let it = c.before.before.writing.given in
     let d = s.args.t2 in
     rw it.1
-    (sym (too_many s.args.links.now it.0.0 (take it.0.1.0 (drop 5 d)) (simp (length-take, length-drop) (omega (arith, good_length (e_int w8) 14 d _ s.well-formed.1.0)))))))
+    (sym (too_many s.args.links.now it.0.0 (take it.0.1.0 (drop 5 d)) (simp (length-take, length-drop) (omega (arith, good_length (e_int w8) 14 d _ s.well_formed_lem.1.0)))))))

@@ -2,14 +2,14 @@
 use mathlib.Core.Path.{sym, ◌∙◌}
 use Rattle.basis.specs.Choice.{choose}
 use Rattle.basis.proofs.Table.{missed}
-use Rattle.dimmer.specs.Load.{loadRows, loadEntry}
+use Rattle.dimmer.specs.Load.{load_rows, load_entry}
 use borrow.Author.Rules.{rules}
 use Rattle.dimmer.proofs.commands.load_entry.Statement.{statement}
 use Rattle.dimmer.proofs.commands.load_entry.Tie as tie
 
-pub load-entry-spec : {M : Type 1} → statement M
-unfolding loadEntry choose
-load-entry-spec =
+pub load_entry_spec : {M : Type 1} → statement M
+unfolding load_entry choose
+load_entry_spec =
     tie.close
     (tie.spec
     (λ c κs. search rules)
@@ -38,4 +38,4 @@ load-entry-spec =
     (λ c. rw (c.at-level8.ensures, c.before.high-then-f.ensures, c.before.before.match.keys9))
     (λ c. rw (c.at-level9.ensures, c.before.match.keys10))
     (λ c. rw (c.percent-entry.ensures, c.before.match.keys11))
-    (λ c. let g = c.before.before.args in c.stays.ensures ∙ sym (missed _ _ (loadRows g.lamp g.r.command2) c.before.match.rest)))
+    (λ c. let g = c.before.before.args in c.stays.ensures ∙ sym (missed _ _ (load_rows g.lamp g.r.command2) c.before.match.rest)))

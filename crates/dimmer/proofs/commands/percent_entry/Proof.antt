@@ -1,14 +1,14 @@
 use native.Mathlib.Omega.{arith}
 use borrow.Author.Tests.{le-leb, lt-leb}
 use Rattle.basis.specs.Choice.{choose}
-use Rattle.dimmer.specs.Load.{percentEntry}
+use Rattle.dimmer.specs.Load.{percent_entry}
 use borrow.Author.Rules.{rules}
 use Rattle.dimmer.proofs.commands.percent_entry.Statement.{statement}
 use Rattle.dimmer.proofs.commands.percent_entry.Tie as tie
 
-pub percent-entry-spec : {M : Type 1} → statement M
-unfolding percentEntry choose
-percent-entry-spec =
+pub percent_entry_spec : {M : Type 1} → statement M
+unfolding percent_entry choose
+percent_entry_spec =
     tie.close
     (tie.spec
     (λ c κs. search rules)

@@ -1,14 +1,14 @@
 use mathlib.Core.Path.{sym, ◌∙◌}
 use Rattle.basis.specs.Choice.{choose}
 use Rattle.basis.proofs.Table.{missed}
-use Rattle.dimmer.specs.Load.{statuses, statusEntry}
+use Rattle.dimmer.specs.Load.{statuses, status_entry}
 use borrow.Author.Rules.{rules}
 use Rattle.dimmer.proofs.commands.status_entry.Statement.{statement}
 use Rattle.dimmer.proofs.commands.status_entry.Tie as tie
 
-pub status-entry-spec : {M : Type 1} → statement M
-unfolding statusEntry choose
-status-entry-spec =
+pub status_entry_spec : {M : Type 1} → statement M
+unfolding status_entry choose
+status_entry_spec =
     tie.close
     (tie.spec
     (λ c κs. search rules)

@@ -1,13 +1,13 @@
 use borrow.Author.Tests.{ne_eqb}
 use Rattle.basis.specs.Choice.{choose}
-use Rattle.dimmer.specs.Properties.{propertiesEntry}
+use Rattle.dimmer.specs.Properties.{properties_entry}
 use borrow.Author.Rules.{rules}
 use Rattle.dimmer.proofs.properties.properties_entry.Statement.{statement}
 use Rattle.dimmer.proofs.properties.properties_entry.Tie as tie
 
-pub properties-entry-spec : {M : Type 1} → statement M
-unfolding propertiesEntry choose
-properties-entry-spec =
+pub properties_entry_spec : {M : Type 1} → statement M
+unfolding properties_entry choose
+properties_entry_spec =
     tie.close
     (tie.spec
     (λ c κs. search rules)

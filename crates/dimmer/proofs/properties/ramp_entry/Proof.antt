@@ -1,14 +1,14 @@
 use native.Mathlib.Omega.{arith}
 use borrow.Author.Tests.{le-leb, lt-leb}
 use Rattle.basis.specs.Choice.{choose}
-use Rattle.dimmer.specs.Properties.{rampEntry}
+use Rattle.dimmer.specs.Properties.{ramp_entry}
 use borrow.Author.Rules.{rules}
 use Rattle.dimmer.proofs.properties.ramp_entry.Statement.{statement}
 use Rattle.dimmer.proofs.properties.ramp_entry.Tie as tie
 
-pub ramp-entry-spec : {M : Type 1} → statement M
-unfolding rampEntry choose
-ramp-entry-spec =
+pub ramp_entry_spec : {M : Type 1} → statement M
+unfolding ramp_entry choose
+ramp_entry_spec =
     tie.close
     (tie.spec
     (λ c κs. search rules)

@@ -2,8 +2,8 @@ use borrow.Author.Rules.{rules}
 use Rattle.dimmer.proofs.table.extended_entry.Statement.{statement}
 use Rattle.dimmer.proofs.table.extended_entry.Tie as tie
 
-pub extended-entry-spec : {M : Type 1} → statement M
-extended-entry-spec =
+pub extended_entry_spec : {M : Type 1} → statement M
+extended_entry_spec =
     tie.close
     (tie.spec
     (λ c. search rules)

@@ -2,8 +2,8 @@ use mathlib.Core.Path.{◌≡◌, sym, ◌∙◌}
 use mathlib.Core.Bool.{true}
 use borrow.Author.Rules.{rules}
 use borrow.Author.Tests.{not-true, not-false, lt-leb}
-use Rattle.image.specs.Image.{isImage}
-use Rattle.image.proofs.Whole.{whether, held-there}
+use Rattle.image.specs.Image.{is_image}
+use Rattle.image.proofs.Whole.{whether, held_there}
 use Rattle.embed.proofs.Served.{refused, served}
 use Rattle.embed.proofs.call.dreelish_step.Statement.{statement}
 use Rattle.embed.proofs.call.dreelish_step.Tie as tie
@@ -20,7 +20,7 @@ returns c =
     (rw (sym (whether g.image.now _ asked.held_in.ensures) ∙ not-true _ c.if1.true))
 
 -- behind the first test the image is one
-is_one : (c : tie.Else1) → isImage (start c.before.before).args.image.now ≡ true
+is_one : (c : tie.Else1) → is_image (start c.before.before).args.image.now ≡ true
 is_one c =
     let asked = c.before.before in
     sym (whether (start asked).args.image.now _ asked.held_in.ensures) ∙ not-false _ c.if1.false
@@ -37,7 +37,7 @@ returns-3 c =
     let roomy = s.before.before.before.before in
     let asked = roomy.before.before.before in
     let g = (start asked).args in
-    let m = held-there g.image.now _ asked.held_in.ensures (is_one roomy.before) in
+    let m = held_there g.image.now _ asked.held_in.ensures (is_one roomy.before) in
     served g.image.now g.links.now g.message.now g.room.now g.report.now (is_one roomy.before) s.step.result _ _
     (rw m at s.step.ensures)
     _ _ _ roomy.if2.false
@@ -45,8 +45,8 @@ returns-3 c =
     c.before.before.before.tell.ensures
     c.number.ensures
 
-pub dreelish-step-spec : {M : Type 1} → statement M
-dreelish-step-spec =
+pub dreelish_step_spec : {M : Type 1} → statement M
+dreelish_step_spec =
     tie.close
     (tie.spec
     (λ c κs. search rules)

@@ -2,7 +2,7 @@ use mathlib.Core.Path.{◌≡◌, sym, ◌∙◌}
 use mathlib.Core.Bool.{true}
 use borrow.Author.Rules.{rules}
 use borrow.Author.Tests.{not-true, not-false, lt-leb}
-use Rattle.embed_class.specs.Row.{isRow}
+use Rattle.embed_class.specs.Row.{is_row}
 use Rattle.embed_class.proofs.ClassServed.{refused, crowd, served}
 use Rattle.embed_class.proofs.call.dreelish_class_step.Statement.{statement}
 use Rattle.embed_class.proofs.call.dreelish_class_step.Tie as tie
@@ -26,7 +26,7 @@ returns-2 c =
     (rw (sym asked.is_row.ensures ∙ not-false _ c.before.if1.false, lt-leb 2 _ c.if2.true))
 
 -- behind the first test they are
-is_one : (c : tie.Else1) → isRow (start c.before).args.count (start c.before).args.images.now ≡ true
+is_one : (c : tie.Else1) → is_row (start c.before).args.count (start c.before).args.images.now ≡ true
 is_one c = sym c.before.is_row.ensures ∙ not-false _ c.if1.false
 
 returns-3 : tie.Need-returns-3
@@ -48,8 +48,8 @@ returns-4 c =
     served g.images.now g.count g.links.now g.message.now g.room.now g.report.now (is_one few.before.before) few.before.if2.false
     called.serve-row.result _ _ _ _ _ called.serve-row.ensures c.before.before.before.tell2.ensures c.class-number2.ensures
 
-pub dreelish-class-step-spec : {M : Type 1} → statement M
-dreelish-class-step-spec =
+pub dreelish_class_step_spec : {M : Type 1} → statement M
+dreelish_class_step_spec =
     tie.close
     (tie.spec
     (λ c κs. search rules)

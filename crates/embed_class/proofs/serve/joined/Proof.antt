@@ -13,5 +13,5 @@ returns-2 : tie.Need-returns-2
 unfolding choose
 returns-2 c = rw (ne_eqb _ 0 (λ e. c.if1.false (c.before.class-number.ensures ∙ e)))
 
-pub joined-spec : {M : Type 1} → statement M
-joined-spec = tie.close (tie.spec (λ c κs. search rules) returns returns-2)
+pub joined_spec : {M : Type 1} → statement M
+joined_spec = tie.close (tie.spec (λ c κs. search rules) returns returns-2)

@@ -6,9 +6,9 @@ use native.Mathlib.Omega.{arith}
 use lib.ListN.{length}
 use Rattle.class.specs.Class.{class_of}
 use Rattle.embed_class.specs.Row.{row_of}
-use Rattle.embed_class.specs.Serve.{isForAll}
-use Rattle.embed_class.proofs.Images.{row-length}
-use Rattle.embed_class.proofs.Standing.{Standing, stands-over, ready, few, to-next, to_end}
+use Rattle.embed_class.specs.Serve.{is_for_all}
+use Rattle.embed_class.proofs.Images.{row_length}
+use Rattle.embed_class.proofs.Standing.{Standing, stands_over, ready, few, to-next, to_end}
 use Rattle.embed_class.proofs.Started.{starts}
 use Rattle.embed_class.proofs.serve.serve_row.Statement.{statement}
 use Rattle.embed_class.proofs.serve.serve_row.Tie as tie
@@ -26,7 +26,7 @@ decreases-loop images₀ count links₀ message room₀ heard t «all» answer�
 names-of-requires : tie.Need-names-of-requires invariant-loop decreases-loop
 names-of-requires c κs =
     let s = c.before.before.before.before.before in
-    (row-length s.args.count s.args.images.now s.requires.0, s.requires.1)
+    (row_length s.args.count s.args.images.now s.requires.0, s.requires.1)
 
 loop-holds : tie.Need-loop-init invariant-loop decreases-loop
 loop-holds c =
@@ -43,7 +43,7 @@ serve-seat-requires : tie.Need-serve-seat-requires invariant-loop decreases-loop
 serve-seat-requires c κs =
     let t = c.before.before.before.before.loop in
     let s = c.before.before.before.before.before.before.before.before.before.before.before.before.before.before.before in
-    let long = row-length s.args.count s.args.images.now s.requires.0 in
+    let long = row_length s.args.count s.args.images.now s.requires.0 in
     (omega (arith, long, t.invariant.0), omega (arith, (ready _ _ _ _ _ _ _ _ _ _ _ t.invariant.3 (omega arith)).own, t.invariant.1))
 
 -- where a seat was served
@@ -57,8 +57,8 @@ start p = p.before.before.before.before.before.before.before.before.before.befor
 abbrev every : Turn → Bool
 every p = p.before.before.before.before.before.before.before.is-for-all.result
 
-by-round : (p : Turn) → every p ≡ isForAll p.before.before.before.before.before.before.before.before.noticed.result.round
-by-round p = p.before.before.before.before.before.before.before.is-for-all.ensures
+by_round : (p : Turn) → every p ≡ is_for_all p.before.before.before.before.before.before.before.before.noticed.result.round
+by_round p = p.before.before.before.before.before.before.before.is-for-all.ensures
 
 with-seat-requires : tie.Need-with-seat-requires invariant-loop decreases-loop
 with-seat-requires c κs =
@@ -67,15 +67,15 @@ with-seat-requires c κs =
     ((ready _ _ _ _ _ _ _ _ _ _ _ t.invariant.3 (omega arith)).counted, few _ _ _ _ _ _ _ _ _ _ _ t.invariant.3 (omega arith) _ _ _ _ p.serve-seat.ensures)
 
 -- there are not so many seats
-add-seat : tie.Need-overflow-add-seat invariant-loop decreases-loop
-add-seat c = omega (arith, (start c.before.before.before.before.before.before.before.before).pre.1)
+add_seat : tie.Need-overflow-add-seat invariant-loop decreases-loop
+add_seat c = omega (arith, (start c.before.before.before.before.before.before.before.before).pre.1)
 
 loop-again : tie.Need-loop-preserved invariant-loop decreases-loop
 loop-again c =
     let p = c.before.before.before.before.before.before.before.before in
     let t = p.before.before.before.before.before.loop in
     let kept = p.serve-seat.auto in
-    let stands = to-next _ _ _ _ _ _ _ _ _ _ _ t.invariant.3 (omega arith) _ _ _ _ p.serve-seat.ensures (sym (by-round p) ∙ c.before.if1.true) in
+    let stands = to-next _ _ _ _ _ _ _ _ _ _ _ t.invariant.3 (omega arith) _ _ _ _ p.serve-seat.ensures (sym (by_round p) ∙ c.before.if1.true) in
     (kept.0 ∙ t.invariant.0, kept.1.1.1.0 ∙ t.invariant.1, kept.1.1.1.1.1.0 ∙ t.invariant.2, rw c.with-seat.ensures stands)
 
 loop-again-2 : tie.Need-loop-preserved-2 invariant-loop decreases-loop
@@ -83,14 +83,14 @@ loop-again-2 c =
     let p = c.before.before.before.before.before.before.before in
     let t = p.before.before.before.before.before.loop in
     let kept = p.serve-seat.auto in
-    let stands = to_end _ _ _ _ _ _ _ _ _ _ _ t.invariant.3 (omega arith) _ _ _ _ p.serve-seat.ensures (sym (by-round p) ∙ c.if1.false) in
+    let stands = to_end _ _ _ _ _ _ _ _ _ _ _ t.invariant.3 (omega arith) _ _ _ _ p.serve-seat.ensures (sym (by_round p) ∙ c.if1.false) in
     (kept.0 ∙ t.invariant.0, kept.1.1.1.0 ∙ t.invariant.1, kept.1.1.1.1.1.0 ∙ t.invariant.2, stands)
 
 returns : tie.Need-returns invariant-loop decreases-loop
-returns c = stands-over _ _ _ _ _ _ _ _ _ _ _ c.before.loop.invariant.3 (omega arith)
+returns c = stands_over _ _ _ _ _ _ _ _ _ _ _ c.before.loop.invariant.3 (omega arith)
 
-pub serve-row-spec : {M : Type 1} → statement M
-serve-row-spec =
+pub serve_row_spec : {M : Type 1} → statement M
+serve_row_spec =
     tie.close
     (tie.spec
     invariant-loop
@@ -102,7 +102,7 @@ serve-row-spec =
     loop-holds
     serve-seat-requires
     with-seat-requires
-    add-seat
+    add_seat
     (λ c. omega arith)
     loop-again
     (λ c. omega arith)

@@ -12,8 +12,8 @@ returns c =
     comes g.seat g.images.now g.share g.links.now g.heard g.room.now taken.held_in.result taken.held_in.ensures
     answered.serve.result _ _ _ answered.serve.ensures c.before.before.store.ensures
 
-pub serve-seat-spec : {M : Type 1} → statement M
-serve-seat-spec =
+pub serve_seat_spec : {M : Type 1} → statement M
+serve_seat_spec =
     tie.close
     (tie.spec
     (λ c. search rules)

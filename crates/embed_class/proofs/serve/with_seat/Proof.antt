@@ -5,5 +5,5 @@ use Rattle.embed_class.proofs.serve.with_seat.Tie as tie
 returns : tie.Need-returns
 returns c = rw c.before.before.joined.ensures
 
-pub with-seat-spec : {M : Type 1} → statement M
-with-seat-spec = tie.close (tie.spec (λ c κs. search rules) (λ c. search rules) returns)
+pub with_seat_spec : {M : Type 1} → statement M
+with_seat_spec = tie.close (tie.spec (λ c κs. search rules) (λ c. search rules) returns)

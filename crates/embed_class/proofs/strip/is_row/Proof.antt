@@ -7,14 +7,14 @@ use lib.Dec.{lit<}
 use lib.ListN.{length, drop}
 use borrow.Author.Tests.{not-true, not-false}
 use Rattle.image.specs.Places.{LENGTH}
-use Rattle.image.specs.Image.{isImage}
-use Rattle.embed_class.specs.Row.{imageIn, areImages}
-use Rattle.embed_class.proofs.Images.{no_row, row-by-images, images-next, images-end, no_more, lent, past}
+use Rattle.image.specs.Image.{is_image}
+use Rattle.embed_class.specs.Row.{image_in, are_images}
+use Rattle.embed_class.proofs.Images.{no_row, row_by_images, images_next, images_end, no_more, lent, past}
 use Rattle.embed_class.proofs.strip.is_row.Statement.{statement}
 use Rattle.embed_class.proofs.strip.is_row.Tie as tie
 
 abbrev invariant-loop : tie.invariant-loop
-invariant-loop images count i₀ i = (length images ≡ count * LENGTH) × (i ≤ count) × (areImages (count - i) (drop (i * LENGTH) images) ≡ areImages count images)
+invariant-loop images count i₀ i = (length images ≡ count * LENGTH) × (i ≤ count) × (are_images (count - i) (drop (i * LENGTH) images) ≡ are_images count images)
 
 abbrev decreases-loop : tie.decreases-loop
 decreases-loop images count i₀ i = count - i
@@ -43,8 +43,8 @@ Asked = tie.After-is-image invariant-loop decreases-loop
 abbrev start : Asked → tie.Start invariant-loop decreases-loop
 start p = p.before.before.before.before.before.before.before
 
-asked : (p : Asked) → p.is-image.result ≡ isImage (imageIn p.before.before.before.loop.i (start p).args.images.now)
-asked p = p.is-image.ensures ∙ ap isImage (lent p.before.before.before.loop.i (start p).args.images.now)
+asked : (p : Asked) → p.is-image.result ≡ is_image (image_in p.before.before.before.loop.i (start p).args.images.now)
+asked p = p.is-image.ensures ∙ ap is_image (lent p.before.before.before.loop.i (start p).args.images.now)
 
 returns-3 : tie.Need-returns-3 invariant-loop decreases-loop
 returns-3 c =
@@ -52,7 +52,7 @@ returns-3 c =
     let t = p.before.before.before.loop in
     let g = (start p).args in
     let none = sym (asked p) ∙ not-true _ c.if3.true in
-    sym (row-by-images g.count g.images.now t.invariant.0 ∙ sym t.invariant.2 ∙ images-end (g.count - t.i) (drop (t.i * LENGTH) g.images.now) (omega arith) none)
+    sym (row_by_images g.count g.images.now t.invariant.0 ∙ sym t.invariant.2 ∙ images_end (g.count - t.i) (drop (t.i * LENGTH) g.images.now) (omega arith) none)
 
 loop-again : tie.Need-loop-preserved invariant-loop decreases-loop
 loop-again c =
@@ -61,17 +61,17 @@ loop-again c =
     let g = (start p).args in
     let fewer : g.count - (t.i + 1) ≡ g.count - t.i - 1 = omega arith in
     let one = sym (asked p) ∙ not-false _ c.if3.false in
-    let next = images-next (g.count - t.i) (drop (t.i * LENGTH) g.images.now) (omega arith) one in
+    let next = images_next (g.count - t.i) (drop (t.i * LENGTH) g.images.now) (omega arith) one in
     (t.invariant.0, omega arith, rw (fewer, past t.i g.images.now) (sym next ∙ t.invariant.2))
 
 returns-4 : tie.Need-returns-4 invariant-loop decreases-loop
 returns-4 c =
     let t = c.before.loop in
     let g = c.before.before.before.before.before.args in
-    sym (row-by-images g.count g.images.now t.invariant.0 ∙ sym t.invariant.2 ∙ no_more (g.count - t.i) (drop (t.i * LENGTH) g.images.now) (omega arith))
+    sym (row_by_images g.count g.images.now t.invariant.0 ∙ sym t.invariant.2 ∙ no_more (g.count - t.i) (drop (t.i * LENGTH) g.images.now) (omega arith))
 
-pub is-row-spec : {M : Type 1} → statement M
-is-row-spec =
+pub is_row_spec : {M : Type 1} → statement M
+is_row_spec =
     tie.close
     (tie.spec
     invariant-loop

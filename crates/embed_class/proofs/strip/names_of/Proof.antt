@@ -6,7 +6,7 @@ use native.Mathlib.Omega.{arith}
 use lib.ListN.{length, take, drop, length-set}
 use Rattle.image.specs.Places.{LENGTH}
 use Rattle.embed_class.specs.Row.{row_of, names_of}
-use Rattle.embed_class.proofs.Named.{one-named, all_named}
+use Rattle.embed_class.proofs.Named.{one_named, all_named_lem}
 use Rattle.embed_class.proofs.strip.names_of.Statement.{statement}
 use Rattle.embed_class.proofs.strip.names_of.Tie as tie
 
@@ -34,7 +34,7 @@ loop-again c =
     let t = c.before.before.before.before.loop in
     let g = c.before.before.before.before.before.args in
     let fewer : g.count - (t.i + 1) ≡ g.count - t.i - 1 = omega arith in
-    let noted = one-named (g.count - t.i) t.i t.names g.images.now (omega arith) (omega (arith, few c)) in
+    let noted = one_named (g.count - t.i) t.i t.names g.images.now (omega arith) (omega (arith, few c)) in
     (omega arith, length-set t.names t.i _ ∙ t.invariant.1, rw fewer (noted ∙ t.invariant.2))
 
 returns : tie.Need-returns invariant-loop decreases-loop
@@ -43,10 +43,10 @@ returns c =
     let g = c.before.before.args in
     let all : g.count ≡ t.i = omega arith in
     let none : g.count - t.i ≡ 0 = omega arith in
-    ap (λ (k : ℕ). take k t.names) all ∙ all_named t.i t.names (drop (t.i * LENGTH) g.images.now) ∙ rw none at t.invariant.2
+    ap (λ (k : ℕ). take k t.names) all ∙ all_named_lem t.i t.names (drop (t.i * LENGTH) g.images.now) ∙ rw none at t.invariant.2
 
-pub names-of-spec : {M : Type 1} → statement M
-names-of-spec =
+pub names_of_spec : {M : Type 1} → statement M
+names_of_spec =
     tie.close
     (tie.spec
     invariant-loop

@@ -7,9 +7,9 @@ use Rattle.image.specs.Image.{kinds}
 use Rattle.image.proofs.held.is_kind.Statement.{statement}
 use Rattle.image.proofs.held.is_kind.Tie as tie
 
-pub is-kind-spec : {M : Type 1} → statement M
+pub is_kind_spec : {M : Type 1} → statement M
 unfolding choose
-is-kind-spec =
+is_kind_spec =
     tie.close
     (tie.spec
     (λ c. search rules)

@@ -5,9 +5,9 @@ use Rattle.image.specs.Image.{load_of}
 use Rattle.image.proofs.held.load_of.Statement.{statement}
 use Rattle.image.proofs.held.load_of.Tie as tie
 
-pub load-of-spec : {M : Type 1} → statement M
+pub load_of_spec : {M : Type 1} → statement M
 unfolding load_of choose
-load-of-spec =
+load_of_spec =
     tie.close
     (tie.spec
     (λ c. search rules)

@@ -6,13 +6,13 @@ use lib.ListN.{length, set}
 use borrow.Author.Rules.{rules}
 use borrow.Author.Tests.{lt-ltb}
 use Rattle.basis.specs.Choice.{choose}
-use Rattle.basis.specs.Laid.{laid, laidIfFits}
+use Rattle.basis.specs.Laid.{laid, laid_if_fits}
 use Rattle.basis.proofs.Laid.{fits}
 use Rattle.image.proofs.report.tell.Statement.{statement}
 use Rattle.image.proofs.report.tell.Tie as tie
 
 returns : tie.Need-returns
-unfolding laidIfFits choose
+unfolding laid_if_fits choose
 returns c = rw (lt-ltb (length c.before.args.report.now) 2 c.if1.true)
 
 -- two numbers stored one by one
@@ -26,5 +26,5 @@ returns-2 c =
     let g = c.before.args in
     stored g.report.now g.sent g.read c.if1.false ∙ sym (fits g.report.now (g.sent ∷ g.read ∷ []) c.if1.false)
 
-pub tell-spec : {M : Type 1} → statement M
-tell-spec = tie.close (tie.spec returns (λ c. search rules) (λ c. search rules) (λ c. search rules) returns-2)
+pub tell_spec : {M : Type 1} → statement M
+tell_spec = tie.close (tie.spec returns (λ c. search rules) (λ c. search rules) (λ c. search rules) returns-2)

@@ -3,9 +3,9 @@ use Rattle.image.specs.Image.{byte_of}
 use Rattle.image.proofs.store.byte_of.Statement.{statement}
 use Rattle.image.proofs.store.byte_of.Tie as tie
 
-pub byte-of-spec : {M : Type 1} → statement M
+pub byte_of_spec : {M : Type 1} → statement M
 unfolding byte_of choose
-byte-of-spec =
+byte_of_spec =
     tie.close
     (tie.spec
     (λ c. rw c.if1.true)

@@ -7,21 +7,21 @@ use borrow.Author.Tests.{not-true, not-false, ne_eqb}
 use Rattle.basis.specs.Choice.{choose}
 use Rattle.module.specs.Module.{kind_of}
 use Rattle.image.specs.Places.{KIND}
-use Rattle.image.specs.Image.{isImage, storedIfOwn}
+use Rattle.image.specs.Image.{is_image, stored_if_own}
 use Rattle.image.proofs.Whole.{long, own}
 use Rattle.image.proofs.store.store.Statement.{statement}
 use Rattle.image.proofs.store.store.Tie as tie
 
 returns : tie.Need-returns
-unfolding storedIfOwn choose
+unfolding stored_if_own choose
 returns c = rw (sym c.before.is-image.ensures ∙ not-true _ c.if1.true)
 
 -- behind the first test it is an image
-is_one : (c : tie.Else1) → isImage c.before.before.before.before.args.image.now ≡ true
+is_one : (c : tie.Else1) → is_image c.before.before.before.before.args.image.now ≡ true
 is_one c = sym c.before.is-image.ensures ∙ not-false _ c.if1.false
 
 returns-2 : tie.Need-returns-2
-unfolding storedIfOwn choose
+unfolding stored_if_own choose
 returns-2 c =
     let told = c.before.before in
     let g = told.before.before.before.before.before.args in
@@ -29,8 +29,8 @@ returns-2 c =
     rw (is_one told.before, ne_eqb (kind_of g.m.load) (get_or g.image.now KIND 0) other)
 
 -- behind the second it is of the module's kind
-of-kind : (c : tie.Else2) → kind_of c.before.before.before.before.before.before.before.args.m.load ≡ get_or c.before.before.before.before.before.before.before.args.image.now KIND 0
-of-kind c = sym c.before.before.kind-of.ensures ∙ c.if2.false
+of_kind : (c : tie.Else2) → kind_of c.before.before.before.before.before.before.before.args.m.load ≡ get_or c.before.before.before.before.before.before.before.args.image.now KIND 0
+of_kind c = sym c.before.before.kind-of.ensures ∙ c.if2.false
 
 store-values-requires : tie.Need-store-values-requires
 store-values-requires c κs = long _ (is_one c.before.before.before.before)
@@ -40,7 +40,7 @@ returns-3 c =
     let stored = c.before.before in
     let right = stored.before.before in
     let g = right.before.before.before.before.before.before.before.args in
-    stored.store-values.ensures ∙ sym (own g.image.now g.m (is_one right.before.before.before) (of-kind right))
+    stored.store-values.ensures ∙ sym (own g.image.now g.m (is_one right.before.before.before) (of_kind right))
 
 pub store_spec : {M : Type 1} → statement M
 store_spec =

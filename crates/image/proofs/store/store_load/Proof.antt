@@ -2,8 +2,8 @@ use borrow.Author.Rules.{rules}
 use Rattle.image.proofs.store.store_load.Statement.{statement}
 use Rattle.image.proofs.store.store_load.Tie as tie
 
-pub store-load-spec : {M : Type 1} → statement M
-store-load-spec =
+pub store_load_spec : {M : Type 1} → statement M
+store_load_spec =
     tie.close
     (tie.spec
     (λ c. search rules)

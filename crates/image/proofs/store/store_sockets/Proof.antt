@@ -2,8 +2,8 @@ use borrow.Author.Rules.{rules}
 use Rattle.image.proofs.store.store_sockets.Statement.{statement}
 use Rattle.image.proofs.store.store_sockets.Tie as tie
 
-pub store-sockets-spec : {M : Type 1} → statement M
-store-sockets-spec =
+pub store_sockets_spec : {M : Type 1} → statement M
+store_sockets_spec =
     tie.close
     (tie.spec
     (λ c κs. search rules)

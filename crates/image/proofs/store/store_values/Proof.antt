@@ -2,13 +2,13 @@ use mathlib.Core.Path.{◌∙◌, ap}
 use native.Mathlib.Omega.{arith}
 use lib.ListN.{length, length-set}
 use borrow.Author.Rules.{rules}
-use Rattle.image.specs.Image.{loadValues}
+use Rattle.image.specs.Image.{load_values}
 use Rattle.image.proofs.Values.{values_length}
 use Rattle.image.proofs.store.store_values.Statement.{statement}
 use Rattle.image.proofs.store.store_values.Tie as tie
 
-pub store-values-spec : {M : Type 1} → statement M
-store-values-spec =
+pub store_values_spec : {M : Type 1} → statement M
+store_values_spec =
     tie.close
     (tie.spec
     (λ c. search rules)
@@ -19,5 +19,5 @@ store-values-spec =
     (λ c κs. search rules)
     (λ c.
     let g = c.before.before.before.before.before.args in
-    ap length c.before.before.store-load.ensures ∙ values_length (loadValues g.m.load) _ ∙ simp length-set)
+    ap length c.before.before.store-load.ensures ∙ values_length (load_values g.m.load) _ ∙ simp length-set)
     (λ c. search rules))

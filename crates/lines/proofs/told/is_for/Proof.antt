@@ -2,8 +2,8 @@ use borrow.Author.Rules.{rules}
 use Rattle.lines.proofs.told.is_for.Statement.{statement}
 use Rattle.lines.proofs.told.is_for.Tie as tie
 
-pub is-for-spec : {M : Type 1} → statement M
-is-for-spec =
+pub is_for_spec : {M : Type 1} → statement M
+is_for_spec =
     tie.close
     (tie.spec
     (λ c. search rules)

@@ -15,8 +15,8 @@ decreases-loop line₀ frame reply row whom n at₀ i₀ line at i = n - i
 loop-holds : tie.Need-loop-init invariant-loop decreases-loop
 loop-holds c = (refl, omega arith, omega (arith, c.before.before.before.before.before.min.ensures))
 
-pub put-class-spec : {M : Type 1} → statement M
-put-class-spec =
+pub put_class_spec : {M : Type 1} → statement M
+put_class_spec =
     tie.close
     (tie.spec
     invariant-loop

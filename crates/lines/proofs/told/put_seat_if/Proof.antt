@@ -4,8 +4,8 @@ use Rattle.basis.proofs.Counted.{counts}
 use Rattle.lines.proofs.told.put_seat_if.Statement.{statement}
 use Rattle.lines.proofs.told.put_seat_if.Tie as tie
 
-pub put-seat-if-spec : {M : Type 1} → statement M
-put-seat-if-spec =
+pub put_seat_if_spec : {M : Type 1} → statement M
+put_seat_if_spec =
     tie.close
     (tie.spec
     (λ c κs. search rules)

@@ -5,8 +5,8 @@ use Rattle.lines.proofs.told.shown_for.Tie as tie
 returns : tie.Need-returns
 returns c = rw c.before.before.whom.given.1 c.shown-at.ensures
 
-pub shown-for-spec : {M : Type 1} → statement M
-shown-for-spec =
+pub shown_for_spec : {M : Type 1} → statement M
+shown_for_spec =
     tie.close
     (tie.spec
     (λ c. search rules)

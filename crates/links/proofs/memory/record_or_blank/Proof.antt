@@ -4,9 +4,9 @@ use borrow.Author.Tests.{lt-ltb, le-ltb}
 use Rattle.links.proofs.memory.record_or_blank.Statement.{statement}
 use Rattle.links.proofs.memory.record_or_blank.Tie as tie
 
-pub record-or-blank-spec : {M : Type 1} → statement M
+pub record_or_blank_spec : {M : Type 1} → statement M
 unfolding choose
-record-or-blank-spec =
+record_or_blank_spec =
     tie.close
     (tie.spec
     (λ c κs. search rules)

@@ -7,5 +7,5 @@ returns : tie.Need-returns
 unfolding start_of
 returns c = search rules
 
-pub start-of-spec : {M : Type 1} → statement M
-start-of-spec = tie.close (tie.spec (λ c. search rules) returns)
+pub start_of_spec : {M : Type 1} → statement M
+start_of_spec = tie.close (tie.spec (λ c. search rules) returns)

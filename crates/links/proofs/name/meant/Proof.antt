@@ -13,5 +13,5 @@ returns-2 : tie.Need-returns-2
 unfolding meant choose
 returns-2 c = rw (ne_eqb c.before.args.address 0x0000 (omega (arith, c.if1.false)))
 
-pub meant-spec : {M : Type 1} → statement M
-meant-spec = tie.close (tie.spec returns returns-2)
+pub meant_spec : {M : Type 1} → statement M
+meant_spec = tie.close (tie.spec returns returns-2)

@@ -26,5 +26,5 @@ returns-4 c =
     let g = c.before.before.before.before.args in
     sym (illegal g.records g.address (λ k h e. omega (arith, c.before.before.before.meant.ensures)))
 
-pub place-of-spec : {M : Type 1} → statement M
-place-of-spec = tie.close (tie.spec (λ c κs. search rules) returns returns-2 returns-3 returns-4)
+pub place_of_spec : {M : Type 1} → statement M
+place_of_spec = tie.close (tie.spec (λ c κs. search rules) returns returns-2 returns-3 returns-4)

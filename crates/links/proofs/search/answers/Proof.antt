@@ -2,8 +2,8 @@ use borrow.Author.Rules.{rules}
 use Rattle.links.proofs.search.answers.Statement.{statement}
 use Rattle.links.proofs.search.answers.Tie as tie
 
-pub answers-spec : {M : Type 1} → statement M
-answers-spec =
+pub answers_spec : {M : Type 1} → statement M
+answers_spec =
     tie.close
     (tie.spec
     (λ c. search rules)

@@ -2,8 +2,8 @@ use borrow.Author.Rules.{rules}
 use Rattle.links.proofs.search.matches.Statement.{statement}
 use Rattle.links.proofs.search.matches.Tie as tie
 
-pub matches-spec : {M : Type 1} → statement M
-matches-spec =
+pub matches_spec : {M : Type 1} → statement M
+matches_spec =
     tie.close
     (tie.spec
     (λ c κs. search rules)

@@ -4,9 +4,9 @@ use Rattle.basis.specs.Choice.{choose}
 use Rattle.links.proofs.search.search.Statement.{statement}
 use Rattle.links.proofs.search.search.Tie as tie
 
-pub search-spec : {M : Type 1} → statement M
+pub search_spec : {M : Type 1} → statement M
 unfolding choose
-search-spec =
+search_spec =
     tie.close
     (tie.spec
     (λ c κs. search rules)

@@ -6,22 +6,22 @@ use borrow.Author.Tests.{lt-ltb, le-ltb, le-leb, lt-leb}
 use Rattle.basis.specs.Choice.{choose}
 use Rattle.basis.proofs.Laid.{inner}
 use Rattle.links.specs.Record.{records, start_of}
-use Rattle.links.specs.Write.{writtenIfThere}
+use Rattle.links.specs.Write.{written_if_there}
 use Rattle.links.proofs.write.write.Statement.{statement}
 use Rattle.links.proofs.write.write.Tie as tie
 
 returns : tie.Need-returns
-unfolding writtenIfThere choose
+unfolding written_if_there choose
 returns c = let g = c.before.before.before.args in rw (le-ltb g.k (records g.links.now) c.if1.true)
 
 returns-2 : tie.Need-returns-2
-unfolding writtenIfThere choose
+unfolding written_if_there choose
 returns-2 c =
     let g = c.before.before.before.before.args in
     rw (lt-ltb g.k (records g.links.now) c.before.if1.false, lt-leb (length g.bytes.now) 8 c.if2.true)
 
 returns-3 : tie.Need-returns-3
-unfolding writtenIfThere choose
+unfolding written_if_there choose
 returns-3 c =
     let g = c.before.before.before.before.before.before.before.before.before.before.args in
     let there = c.before.before.before.before.start_of_lem.ensures.0 in

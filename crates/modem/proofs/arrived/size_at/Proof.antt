@@ -7,9 +7,9 @@ use Rattle.basis.specs.Choice.{choose}
 use Rattle.modem.proofs.arrived.size_at.Statement.{statement}
 use Rattle.modem.proofs.arrived.size_at.Tie as tie
 
-pub size-at-spec : {M : Type 1} → statement M
+pub size_at_spec : {M : Type 1} → statement M
 unfolding choose
-size-at-spec =
+size_at_spec =
     tie.close
     (tie.spec
     (λ c. search rules)

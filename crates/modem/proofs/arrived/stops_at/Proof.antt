@@ -3,8 +3,8 @@ use borrow.Author.Tests.{eq-eqb, ne_eqb}
 use Rattle.modem.proofs.arrived.stops_at.Statement.{statement}
 use Rattle.modem.proofs.arrived.stops_at.Tie as tie
 
-pub stops-at-spec : {M : Type 1} → statement M
-stops-at-spec =
+pub stops_at_spec : {M : Type 1} → statement M
+stops_at_spec =
     tie.close
     (tie.spec
     (λ c. search rules)

@@ -4,9 +4,9 @@ use Rattle.basis.specs.Choice.{choose}
 use Rattle.modem.proofs.frames.marker_of.Statement.{statement}
 use Rattle.modem.proofs.frames.marker_of.Tie as tie
 
-pub marker-of-spec : {M : Type 1} → statement M
+pub marker_of_spec : {M : Type 1} → statement M
 unfolding choose
-marker-of-spec =
+marker_of_spec =
     tie.close
     (tie.spec
     (λ c κs. search rules)

@@ -4,9 +4,9 @@ use Rattle.basis.specs.Choice.{choose}
 use Rattle.modem.proofs.frames.message_size.Statement.{statement}
 use Rattle.modem.proofs.frames.message_size.Tie as tie
 
-pub message-size-spec : {M : Type 1} → statement M
+pub message_size_spec : {M : Type 1} → statement M
 unfolding choose
-message-size-spec =
+message_size_spec =
     tie.close
     (tie.spec
     (λ c κs. search rules)

@@ -18,15 +18,15 @@ returns c =
     cramped g.s g.links.now g.frame.now g.room.now g.out.now c.before.if1.true c.cramped.result c.cramped.ensures
 
 -- the reply that is lent is as long as the step says, and twice as much fits the frames
-slice-reshare-prefix-put-frames : tie.Need-slice-reshare-prefix-put-frames
-slice-reshare-prefix-put-frames c =
+slice_reshare_prefix_put_frames : tie.Need-slice-reshare-prefix-put-frames
+slice_reshare_prefix_put_frames c =
     let p = c.before.before.before.before.before in
     let g = (start p).args in
     let heard = rw ((measured p).min.ensures, message g.frame.now) at p.heed.ensures in
     stands g.s g.links.now (drop 2 g.frame.now) g.room.now _ _ _ heard
 
-slice-aggregate-put-frames : tie.Need-slice-aggregate-put-frames
-slice-aggregate-put-frames c =
+slice_aggregate_put_frames : tie.Need-slice-aggregate-put-frames
+slice_aggregate_put_frames c =
     let p = c.before.before.before.before.before.before in
     let g = (start p).args in
     let heard = rw ((measured p).min.ensures, message g.frame.now) at p.heed.ensures in
@@ -48,8 +48,8 @@ returns-2 c =
     let framed = c.before.before.put-frames.ensures in
     done g.s g.links.now g.frame.now g.room.now g.out.now (measured p).before.if1.false p.heed.result _ _ _ _ heard framed.0 framed.1
 
-pub serve-spec : {M : Type 1} → statement M
-serve-spec =
+pub serve_spec : {M : Type 1} → statement M
+serve_spec =
     tie.close
     (tie.spec
     (λ c. search rules)
@@ -60,8 +60,8 @@ serve-spec =
     (λ c. rw c.before.min.ensures (omega arith))
     (λ c. search rules)
     (λ c κs. search rules)
-    slice-reshare-prefix-put-frames
-    slice-aggregate-put-frames
+    slice_reshare_prefix_put_frames
+    slice_aggregate_put_frames
     put-frames-requires
     (λ c. search rules)
     (λ c. search rules)

@@ -3,9 +3,9 @@ use Rattle.module.specs.Deed.{limited}
 use Rattle.module.proofs.deed.limited.Statement.{statement}
 use Rattle.module.proofs.deed.limited.Tie as tie
 
-pub limited-spec : {M : Type 1} → statement M
+pub limited_spec : {M : Type 1} → statement M
 unfolding limited choose
-limited-spec =
+limited_spec =
     tie.close
     (tie.spec
     (λ c. rw c.if1.true)

@@ -2,8 +2,8 @@ use borrow.Author.Rules.{rules}
 use Rattle.module.proofs.plan.deed_plan.Statement.{statement}
 use Rattle.module.proofs.plan.deed_plan.Tie as tie
 
-pub deed-plan-spec : {M : Type 1} → statement M
-deed-plan-spec =
+pub deed_plan_spec : {M : Type 1} → statement M
+deed_plan_spec =
     tie.close
     (tie.spec
     (λ c. search rules)

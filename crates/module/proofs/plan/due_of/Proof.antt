@@ -2,8 +2,8 @@ use borrow.Author.Rules.{rules}
 use Rattle.module.proofs.plan.due_of.Statement.{statement}
 use Rattle.module.proofs.plan.due_of.Tie as tie
 
-pub due-of-spec : {M : Type 1} → statement M
-due-of-spec =
+pub due_of_spec : {M : Type 1} → statement M
+due_of_spec =
     tie.close
     (tie.spec
     (λ c κs. search rules)

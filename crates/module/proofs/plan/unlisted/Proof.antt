@@ -2,8 +2,8 @@ use borrow.Author.Rules.{rules}
 use Rattle.module.proofs.plan.unlisted.Statement.{statement}
 use Rattle.module.proofs.plan.unlisted.Tie as tie
 
-pub unlisted-spec : {M : Type 1} → statement M
-unlisted-spec =
+pub unlisted_spec : {M : Type 1} → statement M
+unlisted_spec =
     tie.close
     (tie.spec
     (λ c κs. search rules)

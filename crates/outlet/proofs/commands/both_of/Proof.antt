@@ -3,8 +3,8 @@ use borrow.Author.Rules.{rules}
 use Rattle.outlet.proofs.commands.both_of.Statement.{statement}
 use Rattle.outlet.proofs.commands.both_of.Tie as tie
 
-pub both-of-spec : {M : Type 1} → statement M
-both-of-spec =
+pub both_of_spec : {M : Type 1} → statement M
+both_of_spec =
     tie.close
     (tie.spec
     (λ c κs. search rules)

@@ -1,13 +1,13 @@
 use borrow.Author.Tests.{ne_eqb}
 use Rattle.basis.specs.Choice.{choose}
-use Rattle.outlet.specs.Load.{bottomEntry}
+use Rattle.outlet.specs.Load.{bottom_entry}
 use borrow.Author.Rules.{rules}
 use Rattle.outlet.proofs.commands.bottom_entry.Statement.{statement}
 use Rattle.outlet.proofs.commands.bottom_entry.Tie as tie
 
-pub bottom-entry-spec : {M : Type 1} → statement M
-unfolding bottomEntry choose
-bottom-entry-spec =
+pub bottom_entry_spec : {M : Type 1} → statement M
+unfolding bottom_entry choose
+bottom_entry_spec =
     tie.close
     (tie.spec
     (λ c. search rules)

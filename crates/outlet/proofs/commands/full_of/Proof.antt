@@ -3,9 +3,9 @@ use Rattle.outlet.specs.Load.{full_of}
 use Rattle.outlet.proofs.commands.full_of.Statement.{statement}
 use Rattle.outlet.proofs.commands.full_of.Tie as tie
 
-pub full-of-spec : {M : Type 1} → statement M
+pub full_of_spec : {M : Type 1} → statement M
 unfolding full_of choose
-full-of-spec =
+full_of_spec =
     tie.close
     (tie.spec
     (λ c. rw c.if1.true)

@@ -2,8 +2,8 @@ use borrow.Author.Rules.{rules}
 use Rattle.outlet.proofs.groups.group_of.Statement.{statement}
 use Rattle.outlet.proofs.groups.group_of.Tie as tie
 
-pub group-of-spec : {M : Type 1} → statement M
-group-of-spec =
+pub group_of_spec : {M : Type 1} → statement M
+group_of_spec =
     tie.close
     (tie.spec
     (λ c. search rules)

@@ -1,13 +1,13 @@
 use borrow.Author.Tests.{ne_eqb}
 use Rattle.basis.specs.Choice.{choose}
-use Rattle.outlet.specs.Properties.{propertyEntry}
+use Rattle.outlet.specs.Properties.{property_entry}
 use borrow.Author.Rules.{rules}
 use Rattle.outlet.proofs.properties.property_entry.Statement.{statement}
 use Rattle.outlet.proofs.properties.property_entry.Tie as tie
 
-pub property-entry-spec : {M : Type 1} → statement M
-unfolding propertyEntry choose
-property-entry-spec =
+pub property_entry_spec : {M : Type 1} → statement M
+unfolding property_entry choose
+property_entry_spec =
     tie.close
     (tie.spec
     (λ c. search rules)

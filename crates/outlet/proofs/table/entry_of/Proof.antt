@@ -2,8 +2,8 @@ use borrow.Author.Rules.{rules}
 use Rattle.outlet.proofs.table.entry_of.Statement.{statement}
 use Rattle.outlet.proofs.table.entry_of.Tie as tie
 
-pub entry-of-spec : {M : Type 1} → statement M
-entry-of-spec =
+pub entry_of_spec : {M : Type 1} → statement M
+entry_of_spec =
     tie.close
     (tie.spec
     (λ c. search rules)

@@ -2,8 +2,8 @@ use borrow.Author.Rules.{rules}
 use Rattle.outlet.proofs.table.standard_entry.Statement.{statement}
 use Rattle.outlet.proofs.table.standard_entry.Tie as tie
 
-pub standard-entry-spec : {M : Type 1} → statement M
-standard-entry-spec =
+pub standard_entry_spec : {M : Type 1} → statement M
+standard_entry_spec =
     tie.close
     (tie.spec
     (λ c. search rules)

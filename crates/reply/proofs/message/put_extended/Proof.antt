@@ -2,8 +2,8 @@ use borrow.Author.Rules.{rules}
 use Rattle.reply.proofs.message.put_extended.Statement.{statement}
 use Rattle.reply.proofs.message.put_extended.Tie as tie
 
-pub put-extended-spec : {M : Type 1} → statement M
-put-extended-spec =
+pub put_extended_spec : {M : Type 1} → statement M
+put_extended_spec =
     tie.close
     (tie.spec
     (λ c κs. search rules)

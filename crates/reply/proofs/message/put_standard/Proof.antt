@@ -2,8 +2,8 @@ use borrow.Author.Rules.{rules}
 use Rattle.reply.proofs.message.put_standard.Statement.{statement}
 use Rattle.reply.proofs.message.put_standard.Tie as tie
 
-pub put-standard-spec : {M : Type 1} → statement M
-put-standard-spec =
+pub put_standard_spec : {M : Type 1} → statement M
+put_standard_spec =
     tie.close
     (tie.spec
     (λ c κs. search rules)

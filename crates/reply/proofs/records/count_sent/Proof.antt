@@ -14,5 +14,5 @@ returns c =
     let there : min n (records g.links.now - g.k) ≡ n = omega arith in
     rw (c.before.limit.ensures, there) at c.up-to-mark.ensures
 
-pub count-sent-spec : {M : Type 1} → statement M
-count-sent-spec = tie.close (tie.spec (λ c κs. search rules) (λ c κs. search rules) returns)
+pub count_sent_spec : {M : Type 1} → statement M
+count_sent_spec = tie.close (tie.spec (λ c κs. search rules) (λ c κs. search rules) returns)

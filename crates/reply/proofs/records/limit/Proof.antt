@@ -5,9 +5,9 @@ use Rattle.basis.specs.Choice.{choose}
 use Rattle.reply.proofs.records.limit.Statement.{statement}
 use Rattle.reply.proofs.records.limit.Tie as tie
 
-pub limit-spec : {M : Type 1} → statement M
+pub limit_spec : {M : Type 1} → statement M
 unfolding choose
-limit-spec =
+limit_spec =
     tie.close
     (tie.spec
     (λ c κs. search rules)

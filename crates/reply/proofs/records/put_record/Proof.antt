@@ -5,8 +5,8 @@ use Rattle.reply.proofs.records.put_record.Tie as tie
 returns : tie.Need-returns
 returns c = rw c.before.before.before.before.before.record-data.ensures at c.before.before.lay.ensures
 
-pub put-record-spec : {M : Type 1} → statement M
-put-record-spec =
+pub put_record_spec : {M : Type 1} → statement M
+put_record_spec =
     tie.close
     (tie.spec
     (λ c κs. search rules)

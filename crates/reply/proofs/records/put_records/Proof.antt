@@ -10,29 +10,29 @@ use Rattle.basis.specs.Spell.{spell}
 use Rattle.basis.proofs.Laid.{fits, inner, further}
 use Rattle.wire.specs.declared.address.Address.{Address}
 use Rattle.reply.specs.Message.{extended}
-use Rattle.reply.specs.Records.{recordMessage, recordsFrom}
-use Rattle.reply.proofs.Upward.{none, more, length-records}
+use Rattle.reply.specs.Records.{record_message, records_from}
+use Rattle.reply.proofs.Upward.{none, more, length_records}
 use Rattle.reply.proofs.records.put_records.Statement.{statement}
 use Rattle.reply.proofs.records.put_records.Tie as tie
 
 -- a room that begins with such a message begins with what all of them begin with
-begins : (room : List ℕ) (own to : Address) (hops data1 : ℕ) (l : List ℕ) (k : ℕ) → take 23 room ≡ recordMessage own to hops data1 l k
+begins : (room : List ℕ) (own to : Address) (hops data1 : ℕ) (l : List ℕ) (k : ℕ) → take 23 room ≡ record_message own to hops data1 l k
     → spell 11 0 room ≡ extended own to hops 0x2f (data1 ∷ 0x01 ∷ [])
 begins room own to hops data1 l k e = ap (spell 11 0) (sym (take-append-drop 23 room) ∙ ap (λ (m : List ℕ). m ++ drop 23 room) e)
 
 -- the first message stands, and i of n are laid
 record Laid (own to : Address) (hops data1 : ℕ) (l : List ℕ) (k n : ℕ) (start room : List ℕ) (i : ℕ) : Type 0 where
-  first : take 23 room ≡ recordMessage own to hops data1 l k
+  first : take 23 room ≡ record_message own to hops data1 l k
   whole :
-      take (23 * i) room ++ laid (recordsFrom own to hops data1 l (n - i) (k + i)) (drop (23 * i) room)
-      ≡ take 23 start ++ laid (recordsFrom own to hops data1 l (n - 1) (k + 1)) (drop 23 start)
+      take (23 * i) room ++ laid (records_from own to hops data1 l (n - i) (k + i)) (drop (23 * i) room)
+      ≡ take 23 start ++ laid (records_from own to hops data1 l (n - 1) (k + 1)) (drop 23 start)
 
 abbrev invariant-loop : tie.invariant-loop
 invariant-loop room₀ hops data1 links k n i₀ room i =
     (1 ≤ i)
     × (i ≤ n)
     × (length room ≡ length room₀)
-    × ((own to : Address) → take 23 room₀ ≡ recordMessage own to hops data1 links k → Laid own to hops data1 links k n room₀ room i)
+    × ((own to : Address) → take 23 room₀ ≡ record_message own to hops data1 links k → Laid own to hops data1 links k n room₀ room i)
 
 abbrev decreases-loop : tie.decreases-loop
 decreases-loop room₀ hops data1 links k n i₀ room i = n - i
@@ -62,9 +62,9 @@ loop-again c =
       omega arith,
       λ own to e.
           let was = t.invariant.3 own to e in
-          let m : List ℕ = recordMessage own to g.hops g.data1 l (g.k + t.i) in
-          let R : List ℕ = recordsFrom own to g.hops g.data1 l (g.n - (t.i + 1)) (g.k + (t.i + 1)) in
-          let w : recordsFrom own to g.hops g.data1 l (g.n - t.i) (g.k + t.i) ≡ m ++ R = rw (more own to g.hops g.data1 l (g.n - t.i) (g.k + t.i) (omega arith), x, y) in
+          let m : List ℕ = record_message own to g.hops g.data1 l (g.k + t.i) in
+          let R : List ℕ = records_from own to g.hops g.data1 l (g.n - (t.i + 1)) (g.k + (t.i + 1)) in
+          let w : records_from own to g.hops g.data1 l (g.n - t.i) (g.k + t.i) ≡ m ++ R = rw (more own to g.hops g.data1 l (g.n - t.i) (g.k + t.i) (omega arith), x, y) in
           let h = c.before.before.before.before.laid-head.ensures ∙ begins t.room own to g.hops g.data1 l g.k was.first in
           let q = inner (23 * t.i) t.room _ m (omega arith) (rw h at c.before.before.put-record2.ensures) in
           record {
@@ -79,23 +79,23 @@ returns-2 c =
     let t = c.before.loop in
     let l = g.links.now in
     let room = g.room.now in
-    let m : List ℕ = recordMessage g.own g.to g.hops g.data1 l g.k in
-    let R : List ℕ = recordsFrom g.own g.to g.hops g.data1 l (g.n - 1) (g.k + 1) in
+    let m : List ℕ = record_message g.own g.to g.hops g.data1 l g.k in
+    let R : List ℕ = records_from g.own g.to g.hops g.data1 l (g.n - 1) (g.k + 1) in
     let first = rw c.before.before.before.before.before.before.record-head.ensures at c.before.before.before.before.put_record.ensures ∙ fits room m (omega arith) in
     let was = t.invariant.3 g.own g.to (ap (take 23) first) in
     let x : g.n - t.i ≡ 0 = omega arith in
     let y : pred g.n ≡ g.n - 1 = omega arith in
-    let left : recordsFrom g.own g.to g.hops g.data1 l (g.n - t.i) (g.k + t.i) ≡ [] = rw x (none g.own g.to g.hops g.data1 l (g.k + t.i)) in
-    let all : recordsFrom g.own g.to g.hops g.data1 l g.n g.k ≡ m ++ R = rw (more g.own g.to g.hops g.data1 l g.n g.k (omega arith), y) in
+    let left : records_from g.own g.to g.hops g.data1 l (g.n - t.i) (g.k + t.i) ≡ [] = rw x (none g.own g.to g.hops g.data1 l (g.k + t.i)) in
+    let all : records_from g.own g.to g.hops g.data1 l g.n g.k ≡ m ++ R = rw (more g.own g.to g.hops g.data1 l g.n g.k (omega arith), y) in
     sym (take-append-drop (23 * t.i) t.room)
     ∙ ap (λ (v : List ℕ). take (23 * t.i) t.room ++ laid v (drop (23 * t.i) t.room)) (sym left)
     ∙ was.whole
     ∙ further 0 room _ m R (omega arith) first
     ∙ ap (λ (v : List ℕ). laid v room) (sym all)
-    ∙ sym (fits room _ (omega (arith, length-records g.own g.to g.hops g.data1 l g.n g.k)))
+    ∙ sym (fits room _ (omega (arith, length_records g.own g.to g.hops g.data1 l g.n g.k)))
 
-pub put-records-spec : {M : Type 1} → statement M
-put-records-spec =
+pub put_records_spec : {M : Type 1} → statement M
+put_records_spec =
     tie.close
     (tie.spec
     invariant-loop

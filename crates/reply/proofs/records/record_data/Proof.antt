@@ -9,8 +9,8 @@ returns c =
     let s = c.before.before.before in
     rw (c.record-or-blank.ensures ∙ taken s.args.links.now s.args.k s.requires, c.before.name_of.ensures)
 
-pub record-data-spec : {M : Type 1} → statement M
-record-data-spec =
+pub record_data_spec : {M : Type 1} → statement M
+record_data_spec =
     tie.close
     (tie.spec
     (λ c κs. search rules)

@@ -9,8 +9,8 @@ use Rattle.reply.proofs.send.send.Tie as tie
 returns : tie.Need-returns
 returns c = rw c.enum_told.given.1 (whole [] c.before.before.before.before.args.room.now 0 _ (omega arith) refl refl)
 
-pub send-spec : {M : Type 1} → statement M
-send-spec =
+pub send_spec : {M : Type 1} → statement M
+send_spec =
     tie.close
     (tie.spec
     (λ c. search rules)

@@ -19,8 +19,8 @@ returns-2 c =
     let h = head_of g.own g.head in
     whole h room 9 _ (omega arith) refl (c.before.before.put-head.ensures ∙ fits room h (omega arith))
 
-pub send-head-spec : {M : Type 1} → statement M
-send-head-spec =
+pub send_head_spec : {M : Type 1} → statement M
+send_head_spec =
     tie.close
     (tie.spec
     returns

@@ -23,8 +23,8 @@ returns-2 c =
     let first = c.before.before.before.before.before.before.put-head.ensures in
     whole (h ++ more) room 18 _ (omega arith) refl (behind room _ _ h more (omega arith) first c.before.before.put-standard.ensures)
 
-pub send-id-spec : {M : Type 1} → statement M
-send-id-spec =
+pub send_id_spec : {M : Type 1} → statement M
+send_id_spec =
     tie.close
     (tie.spec
     returns

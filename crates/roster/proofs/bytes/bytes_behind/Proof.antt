@@ -6,10 +6,10 @@ use mathlib.Core.List.{List}
 use native.Mathlib.Omega.{arith}
 use lib.ListN.{length}
 use borrow.Author.Tests.{not-true, not-false}
-use Rattle.roster.specs.Words.{wordStart, word_at}
+use Rattle.roster.specs.Words.{word_start, word_at}
 use Rattle.roster.specs.Bytes.{is_byte}
 use Rattle.roster.proofs.Parted.{starts, ends_there}
-use Rattle.roster.proofs.Taken.{Taken, nothing-taken, all-taken, word-taken, no_more, other_word}
+use Rattle.roster.proofs.Taken.{Taken, nothing_taken, all_taken, word-taken, no_more, other_word}
 use Rattle.roster.proofs.bytes.bytes_behind.Statement.{statement}
 use Rattle.roster.proofs.bytes.bytes_behind.Tie as tie
 
@@ -26,22 +26,22 @@ Ended = tie.After-word-end invariant-loop decreases-loop
 abbrev line_at : Ended → List ℕ
 line_at p = p.before.before.before.before.before.args.line.now
 
-abbrev start-at : Ended → ℕ
-start-at p = p.before.before.word-start.result
+abbrev start_at : Ended → ℕ
+start_at p = p.before.before.word-start.result
 
-within : (p : Ended) → (start-at p < p.word-end.result) × (p.word-end.result ≤ length (line_at p))
+within : (p : Ended) → (start_at p < p.word-end.result) × (p.word-end.result ≤ length (line_at p))
 within p =
     let e = p.word-end.ensures in
-    let h = ends_there (line_at p) p.before.before.before.loop.at (start-at p) p.before.before.word-start.ensures (omega arith) in
+    let h = ends_there (line_at p) p.before.before.before.loop.at (start_at p) p.before.before.word-start.ensures (omega arith) in
     (omega arith, omega arith)
 
-there : (p : Ended) → wordStart (line_at p) p.before.before.before.loop.at < length (line_at p)
+there : (p : Ended) → word_start (line_at p) p.before.before.before.loop.at < length (line_at p)
 there p = let e = p.before.before.word-start.ensures in omega (arith, p.before.if1.left)
 
 returns : tie.Need-returns invariant-loop decreases-loop
 returns c =
     let t = c.before.before.loop in
-    all-taken _ _ t.at t.n t.bytes t.invariant (omega (arith, c.before.word-start.ensures, c.if1.true))
+    all_taken _ _ t.at t.n t.bytes t.invariant (omega (arith, c.before.word-start.ensures, c.if1.true))
 
 returns-2 : tie.Need-returns-2 invariant-loop decreases-loop
 returns-2 c =
@@ -53,7 +53,7 @@ returns-3 : tie.Need-returns-3 invariant-loop decreases-loop
 returns-3 c =
     let p = c.before.before.before.before.before in
     let t = p.before.before.before.loop in
-    let word : is_byte (word_at (line_at p) (wordStart (line_at p) t.at)) ≡ false =
+    let word : is_byte (word_at (line_at p) (word_start (line_at p) t.at)) ≡ false =
     rw (← p.before.before.word-start.ensures, ← p.word-end.ensures) (sym c.before.before.is_byte_lem.ensures ∙ not-true _ c.before.if3.true) in
     c.no-bytes2.ensures ∙ other_word _ _ t.at t.n t.bytes t.invariant (there p) word
 
@@ -70,17 +70,17 @@ loop-again : tie.Need-loop-preserved invariant-loop decreases-loop
 loop-again c =
     let p = c.before.before.before.before.before in
     let t = p.before.before.before.loop in
-    let isThere = sym c.before.before.is_byte_lem.ensures ∙ not-false _ c.before.if3.false in
+    let is_there = sym c.before.before.is_byte_lem.ensures ∙ not-false _ c.before.if3.false in
     rw (c.byte_of.ensures, p.word-end.ensures, p.before.before.word-start.ensures)
-    (word-taken _ _ t.at t.n t.bytes t.invariant (there p) (omega (arith, c.before.before.before.if2.false)) (rw (p.word-end.ensures, p.before.before.word-start.ensures) at isThere))
+    (word-taken _ _ t.at t.n t.bytes t.invariant (there p) (omega (arith, c.before.before.before.if2.false)) (rw (p.word-end.ensures, p.before.before.word-start.ensures) at is_there))
 
-pub bytes-behind-spec : {M : Type 1} → statement M
-bytes-behind-spec =
+pub bytes_behind_spec : {M : Type 1} → statement M
+bytes_behind_spec =
     tie.close
     (tie.spec
     invariant-loop
     decreases-loop
-    (λ c. nothing-taken _ _ (omega arith))
+    (λ c. nothing_taken _ _ (omega arith))
     (λ c κs. omega arith)
     returns
     (λ c κs. omega arith)

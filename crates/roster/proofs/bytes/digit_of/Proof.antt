@@ -5,8 +5,8 @@ use Rattle.roster.proofs.Digits.{numeral, capital, small, none}
 use Rattle.roster.proofs.bytes.digit_of.Statement.{statement}
 use Rattle.roster.proofs.bytes.digit_of.Tie as tie
 
-pub digit-of-spec : {M : Type 1} → statement M
-digit-of-spec =
+pub digit_of_spec : {M : Type 1} → statement M
+digit_of_spec =
     tie.close
     (tie.spec
     (λ c. omega arith)

@@ -12,8 +12,8 @@ returns-2 : tie.Need-returns-2
 unfolding is_byte
 returns-2 c = rw (eq-eqb _ 2 c.before.before.before.before.if1.false, c.before.before.digit-of.ensures, c.digit-of2.ensures)
 
-pub is-byte-spec : {M : Type 1} → statement M
-is-byte-spec =
+pub is_byte_spec : {M : Type 1} → statement M
+is_byte_spec =
     tie.close
     (tie.spec
     returns

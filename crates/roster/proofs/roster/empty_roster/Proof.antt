@@ -1,8 +1,8 @@
 use Rattle.roster.proofs.roster.empty_roster.Statement.{statement}
 use Rattle.roster.proofs.roster.empty_roster.Tie as tie
 
-pub empty-roster-spec : {M : Type 1} → statement M
-empty-roster-spec =
+pub empty_roster_spec : {M : Type 1} → statement M
+empty_roster_spec =
     tie.close
     (tie.spec
     (λ c κs. tt)

@@ -3,7 +3,7 @@ use Prim.Native.Nat.{◌-◌}
 use native.Mathlib.Omega.{arith}
 use lib.ListN.{length}
 use borrow.Author.Tests.{eq-eqb, ne_eqb}
-use Rattle.roster.specs.Roster.{ends_at, lineEnd}
+use Rattle.roster.specs.Roster.{ends_at, line_end}
 use Rattle.roster.proofs.Places.{Sought, begun, met, passed, ended}
 use Rattle.roster.proofs.roster.line_end.Statement.{statement}
 use Rattle.roster.proofs.roster.line_end.Tie as tie
@@ -15,7 +15,7 @@ abbrev decreases-loop : tie.decreases-loop
 decreases-loop text at k₀ k = length text - k
 
 returns : tie.Need-returns invariant-loop decreases-loop
-unfolding lineEnd
+unfolding line_end
 returns c =
     let t = c.before.before.before.loop in
     met _ _ _ t.k t.invariant (omega arith) (eq-eqb _ 0x0a c.if1.true)
@@ -26,11 +26,11 @@ loop-again c =
     passed _ _ _ t.k t.invariant (omega arith) (ne_eqb _ 0x0a c.if1.false)
 
 returns-2 : tie.Need-returns-2 invariant-loop decreases-loop
-unfolding lineEnd
+unfolding line_end
 returns-2 c = let t = c.before.loop in ended _ _ _ t.k t.invariant (omega arith)
 
-pub line-end-spec : {M : Type 1} → statement M
-line-end-spec =
+pub line_end_spec : {M : Type 1} → statement M
+line_end_spec =
     tie.close
     (tie.spec
     invariant-loop

@@ -1,13 +1,13 @@
 use native.Mathlib.Omega.{arith}
 use borrow.Author.Tests.{lt-ltb, le-ltb}
 use Rattle.basis.specs.Choice.{choose}
-use Rattle.roster.specs.Roster.{lineNext}
+use Rattle.roster.specs.Roster.{line_next}
 use Rattle.roster.proofs.roster.line_next.Statement.{statement}
 use Rattle.roster.proofs.roster.line_next.Tie as tie
 
-pub line-next-spec : {M : Type 1} → statement M
-unfolding lineNext choose
-line-next-spec =
+pub line_next_spec : {M : Type 1} → statement M
+unfolding line_next choose
+line_next_spec =
     tie.close
     (tie.spec
     (λ c. omega arith)

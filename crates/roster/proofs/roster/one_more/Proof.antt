@@ -2,8 +2,8 @@ use borrow.Author.Rules.{rules}
 use Rattle.roster.proofs.roster.one_more.Statement.{statement}
 use Rattle.roster.proofs.roster.one_more.Tie as tie
 
-pub one-more-spec : {M : Type 1} → statement M
-one-more-spec =
+pub one_more_spec : {M : Type 1} → statement M
+one_more_spec =
     tie.close
     (tie.spec
     (λ c κs. search rules)

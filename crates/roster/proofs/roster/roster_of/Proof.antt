@@ -34,8 +34,8 @@ inside p =
     let h = ends (text_at p) (place_at p) p.before.before.loop.inv.inside in
     (omega arith, omega arith)
 
-add-number : tie.Need-overflow-add-number invariant-loop decreases-loop
-add-number c = let t = c.before.before.before.before.loop in omega (arith, t.invariant.numbered)
+add_number : tie.Need-overflow-add-number invariant-loop decreases-loop
+add_number c = let t = c.before.before.before.before.loop in omega (arith, t.invariant.numbered)
 
 with-line-requires : tie.Need-with-line-requires invariant-loop decreases-loop
 with-line-requires c κs = let t = c.before.before.before.before.loop in omega (arith, t.invariant.counted, t.invariant.numbered)
@@ -53,8 +53,8 @@ loop-again c =
     rw (c.line-next.ensures, c.before.with-line.ensures, c.before.before.Line-of.ensures, p.line-end.ensures)
     (line_read (text_at p) t.at t.number t.r (omega arith) t.invariant)
 
-pub roster-of-spec : {M : Type 1} → statement M
-roster-of-spec =
+pub roster_of_spec : {M : Type 1} → statement M
+roster_of_spec =
     tie.close
     (tie.spec
     invariant-loop
@@ -67,7 +67,7 @@ roster-of-spec =
     (λ c. (inside c).0)
     (λ c. (inside c).1)
     (λ c κs. tt)
-    add-number
+    add_number
     with-line-requires
     (λ c κs. tt)
     loop-less

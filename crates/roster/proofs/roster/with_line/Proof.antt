@@ -3,8 +3,8 @@ use borrow.Author.Rules.{rules}
 use Rattle.roster.proofs.roster.with_line.Statement.{statement}
 use Rattle.roster.proofs.roster.with_line.Tie as tie
 
-pub with-line-spec : {M : Type 1} → statement M
-with-line-spec =
+pub with_line_spec : {M : Type 1} → statement M
+with_line_spec =
     tie.close
     (tie.spec
     (λ c. search rules)

@@ -1,13 +1,13 @@
 use borrow.Author.Rules.{rules}
 use borrow.Author.Tests.{lt-ltb, le-ltb}
 use Rattle.basis.specs.Choice.{choose}
-use Rattle.roster.specs.Roster.{withSeat}
+use Rattle.roster.specs.Roster.{with_seat}
 use Rattle.roster.proofs.roster.with_seat.Statement.{statement}
 use Rattle.roster.proofs.roster.with_seat.Tie as tie
 
-pub with-seat-spec : {M : Type 1} → statement M
-unfolding withSeat choose
-with-seat-spec =
+pub with_seat_spec : {M : Type 1} → statement M
+unfolding with_seat choose
+with_seat_spec =
     tie.close
     (tie.spec
     (λ c. search rules)

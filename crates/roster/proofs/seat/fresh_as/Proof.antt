@@ -2,8 +2,8 @@ use borrow.Author.Rules.{rules}
 use Rattle.roster.proofs.seat.fresh_as.Statement.{statement}
 use Rattle.roster.proofs.seat.fresh_as.Tie as tie
 
-pub fresh-as-spec : {M : Type 1} → statement M
-fresh-as-spec =
+pub fresh_as_spec : {M : Type 1} → statement M
+fresh_as_spec =
     tie.close
     (tie.spec
     (λ c. search rules)

@@ -2,8 +2,8 @@ use borrow.Author.Rules.{rules}
 use Rattle.roster.proofs.seat.fresh_at.Statement.{statement}
 use Rattle.roster.proofs.seat.fresh_at.Tie as tie
 
-pub fresh-at-spec : {M : Type 1} → statement M
-fresh-at-spec =
+pub fresh_at_spec : {M : Type 1} → statement M
+fresh_at_spec =
     tie.close
     (tie.spec
     (λ c. search rules)

@@ -3,13 +3,13 @@ use Prim.Native.Nat.{◌≤◌, ◌-◌}
 use mathlib.Core.Path.{◌≡◌, refl, sym, ◌∙◌}
 use native.Mathlib.Omega.{arith}
 use lib.ListN.{length, drop}
-use Rattle.roster.specs.Word.{isSame}
+use Rattle.roster.specs.Word.{is_same}
 use Rattle.roster.proofs.Same.{unlike, none_left, equal_next, other-next}
 use Rattle.roster.proofs.word.is_same.Statement.{statement}
 use Rattle.roster.proofs.word.is_same.Tie as tie
 
 abbrev invariant-loop : tie.invariant-loop
-invariant-loop a b i₀ i = (i ≤ length a) × (length a ≡ length b) × (isSame (drop i a) (drop i b) ≡ isSame a b)
+invariant-loop a b i₀ i = (i ≤ length a) × (length a ≡ length b) × (is_same (drop i a) (drop i b) ≡ is_same a b)
 
 abbrev decreases-loop : tie.decreases-loop
 decreases-loop a b i₀ i = length a - i
@@ -41,8 +41,8 @@ returns-3 c =
     let g = c.before.before.before.args in
     sym (none_left g.a.now g.b.now t.i (omega arith) (omega arith)) ∙ t.invariant.2
 
-pub is-same-spec : {M : Type 1} → statement M
-is-same-spec =
+pub is_same_spec : {M : Type 1} → statement M
+is_same_spec =
     tie.close
     (tie.spec
     invariant-loop

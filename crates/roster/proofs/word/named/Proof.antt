@@ -21,8 +21,8 @@ returns-3 c =
     let first = c.before.before.before in
     rw (sym first.before.is_same.ensures ∙ first.if1.false, sym c.before.is-same2.ensures ∙ c.if2.false)
 
-pub named-spec : {M : Type 1} → statement M
-named-spec =
+pub named_spec : {M : Type 1} → statement M
+named_spec =
     tie.close
     (tie.spec
     (λ c. search rules)

@@ -21,8 +21,8 @@ returns-3 c =
     let first = c.before.before.before in
     rw (sym first.before.is-alike.ensures ∙ first.if1.false, sym c.before.is-alike2.ensures ∙ c.if2.false)
 
-pub named-any-spec : {M : Type 1} → statement M
-named-any-spec =
+pub named_any_spec : {M : Type 1} → statement M
+named_any_spec =
     tie.close
     (tie.spec
     (λ c. search rules)

@@ -3,13 +3,13 @@ use Prim.Native.Nat.{◌-◌}
 use native.Mathlib.Nat.{sub-zero}
 use native.Mathlib.Omega.{arith}
 use lib.ListN.{length}
-use Rattle.roster.specs.Words.{stopsAt, bareLength}
+use Rattle.roster.specs.Words.{stops_at, bare_length}
 use Rattle.roster.proofs.Places.{Sought, begun, met, passed, ended}
 use Rattle.roster.proofs.words.bare_length.Statement.{statement}
 use Rattle.roster.proofs.words.bare_length.Tie as tie
 
 abbrev invariant-loop : tie.invariant-loop
-invariant-loop line k₀ k = Sought (stopsAt line) (length line) 0 k
+invariant-loop line k₀ k = Sought (stops_at line) (length line) 0 k
 
 abbrev decreases-loop : tie.decreases-loop
 decreases-loop line k₀ k = length line - k
@@ -18,7 +18,7 @@ loop-holds : tie.Need-loop-init invariant-loop decreases-loop
 loop-holds c = begun _ _ _ (omega arith)
 
 returns : tie.Need-returns invariant-loop decreases-loop
-unfolding bareLength
+unfolding bare_length
 returns c =
     let t = c.before.before.before.before.loop in
     rw sub-zero at (met _ _ _ t.k t.invariant (omega arith) c.if1.true)
@@ -29,11 +29,11 @@ loop-again c =
     passed _ _ _ t.k t.invariant (omega arith) c.if1.false
 
 returns-2 : tie.Need-returns-2 invariant-loop decreases-loop
-unfolding bareLength
+unfolding bare_length
 returns-2 c = let t = c.before.loop in rw sub-zero at (ended _ _ _ t.k t.invariant (omega arith))
 
-pub bare-length-spec : {M : Type 1} → statement M
-bare-length-spec =
+pub bare_length_spec : {M : Type 1} → statement M
+bare_length_spec =
     tie.close
     (tie.spec
     invariant-loop

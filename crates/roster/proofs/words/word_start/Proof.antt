@@ -2,13 +2,13 @@
 use Prim.Native.Nat.{◌-◌}
 use native.Mathlib.Omega.{arith}
 use lib.ListN.{length}
-use Rattle.roster.specs.Words.{inkAt, wordStart}
+use Rattle.roster.specs.Words.{ink_at, word_start}
 use Rattle.roster.proofs.Places.{Sought, begun, met, passed, ended}
 use Rattle.roster.proofs.words.word_start.Statement.{statement}
 use Rattle.roster.proofs.words.word_start.Tie as tie
 
 abbrev invariant-loop : tie.invariant-loop
-invariant-loop line at k₀ k = Sought (inkAt line) (length line) at k
+invariant-loop line at k₀ k = Sought (ink_at line) (length line) at k
 
 abbrev decreases-loop : tie.decreases-loop
 decreases-loop line at k₀ k = length line - k
@@ -17,7 +17,7 @@ loop-holds : tie.Need-loop-init invariant-loop decreases-loop
 loop-holds c = begun _ _ _ (omega arith)
 
 returns : tie.Need-returns invariant-loop decreases-loop
-unfolding wordStart
+unfolding word_start
 returns c =
     let t = c.before.before.before.before.loop in
     met _ _ _ t.k t.invariant (omega arith) (rw c.before.is-blank.ensures at c.if1.true)
@@ -28,11 +28,11 @@ loop-again c =
     passed _ _ _ t.k t.invariant (omega arith) (rw c.before.is-blank.ensures at c.if1.false)
 
 returns-2 : tie.Need-returns-2 invariant-loop decreases-loop
-unfolding wordStart
+unfolding word_start
 returns-2 c = let t = c.before.loop in ended _ _ _ t.k t.invariant (omega arith)
 
-pub word-start-spec : {M : Type 1} → statement M
-word-start-spec =
+pub word_start_spec : {M : Type 1} → statement M
+word_start_spec =
     tie.close
     (tie.spec
     invariant-loop

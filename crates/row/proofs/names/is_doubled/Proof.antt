@@ -10,12 +10,12 @@ use lib.Dec.{eqb}
 use lib.ListN.{length, get_or, set, length-set}
 use lib.Seq.{get_or-set_same, get_or-set_other}
 use borrow.Author.Tests.{lt-ltb, le-ltb, eqb-true, eqb-false, not-true, not-false}
-use Rattle.basis.specs.First.{first, firstFrom}
+use Rattle.basis.specs.First.{first, first_from}
 use Rattle.basis.proofs.First.{none, here, later}
 use Rattle.basis.proofs.Tests.{clash}
 use Rattle.wire.specs.declared.address.Address.{Address}
 use Rattle.row.specs.Row.{is_taken}
-use Rattle.row.specs.Round.{nameIn}
+use Rattle.row.specs.Round.{name_in}
 use Rattle.row.proofs.Named.{not_taken}
 use Rattle.row.proofs.names.is_doubled.Statement.{statement}
 use Rattle.row.proofs.names.is_doubled.Tie as tie
@@ -25,14 +25,14 @@ abbrev Marked : (ℕ → Address) → List Bool → ℕ → Type 0
 Marked name met i = (j : ℕ) → j < i → get_or met (name j).low false ≡ true
 
 -- one seat further, where seat i is free
-further : (P : ℕ → Bool) (n i : ℕ) → i < n → P i ≡ false → firstFrom P (n - i) i ≡ first P n → firstFrom P (n - (i + 1)) (i + 1) ≡ first P n
+further : (P : ℕ → Bool) (n i : ℕ) → i < n → P i ≡ false → first_from P (n - i) i ≡ first P n → first_from P (n - (i + 1)) (i + 1) ≡ first P n
 further P n i h free left =
     let p : n - (i + 1) ≡ pred (n - i) = omega (arith, h) in
     rw p (sym (later P (n - i) i (omega (arith, h)) free) ∙ left)
 
 module _ (name : ℕ → Address) (met : List Bool) (i : ℕ) (marked : Marked name met i) (low : ℕ) (own : low ≡ (name i).low) where
-  not-met : get_or met low false ≡ false → is_taken name i ≡ false
-  not-met e = not_taken name i (λ j h p. clash (marked j h) (rw (← (own ∙ p)) e))
+  not_met : get_or met low false ≡ false → is_taken name i ≡ false
+  not_met e = not_taken name i (λ j h p. clash (marked j h) (rw (← (own ∙ p)) e))
 
   -- other marks, of which that of seat i is set and the rest are the same
   one_more : (m : List Bool) → get_or m low false ≡ true → ((k : ℕ) → k ≢ low → get_or m k false ≡ get_or met k false) → Marked name m (i + 1)
@@ -54,9 +54,9 @@ module _ (name : ℕ → Address) (met : List Bool) (i : ℕ) (marked : Marked n
 abbrev invariant-loop : tie.invariant-loop
 invariant-loop n names met₀ i₀ met i =
     (i ≤ n)
-    × (firstFrom (is_taken (nameIn names)) (n - i) i ≡ first (is_taken (nameIn names)) n)
+    × (first_from (is_taken (name_in names)) (n - i) i ≡ first (is_taken (name_in names)) n)
     × (length met ≡ 256)
-    × Marked (nameIn names) met i
+    × Marked (name_in names) met i
 
 abbrev decreases-loop : tie.decreases-loop
 decreases-loop n names met₀ i₀ met i = n - i
@@ -67,8 +67,8 @@ loop-again c =
     let g = c.before.before.before.before.args in
     let l = c.before.before.before.loop in
     let low = c.before.wide in
-    let name = nameIn g.t1 in
-    let free = not-met name l.met l.i l.invariant.3 low.result low.ensures.0 (not-true (get_or l.met low.result false) c.if2.true) in
+    let name = name_in g.t1 in
+    let free = not_met name l.met l.i l.invariant.3 low.result low.ensures.0 (not-true (get_or l.met low.result false) c.if2.true) in
     let left = further (is_taken name) g.n l.i (omega arith) free l.invariant.1 in
     let marked = marks name l.met l.i l.invariant.3 low.result low.ensures.0 (rw l.invariant.2 low.ensures.1) in
     (omega arith, left, length-set l.met low.result true ∙ l.invariant.2, marked)
@@ -79,7 +79,7 @@ loop-again-2 c =
     let g = c.before.before.before.before.before.before.before.args in
     let l = c.before.before.before.before.before.before.loop in
     let low = c.before.before.before.before.wide in
-    let name = nameIn g.t1 in
+    let name = name_in g.t1 in
     let free : is_taken name l.i ≡ false = le-ltb _ l.i (rw (← c.before.seat-named.ensures) c.if3.false) in
     let left = further (is_taken name) g.n l.i (omega arith) free l.invariant.1 in
     let met = not-false (get_or l.met low.result false) c.before.before.before.if2.false in
@@ -90,20 +90,20 @@ returns c =
     let g = c.before.before.args in
     let i = c.before.loop.i in
     let p : g.n - i ≡ 0 = omega arith in
-    let stop : i ≡ first (is_taken (nameIn g.t1)) g.n = sym (none (is_taken (nameIn g.t1)) i) ∙ rw p at c.before.loop.invariant.1 in
+    let stop : i ≡ first (is_taken (name_in g.t1)) g.n = sym (none (is_taken (name_in g.t1)) i) ∙ rw p at c.before.loop.invariant.1 in
     sym (le-ltb _ g.n (rw (← stop) (omega arith)))
 
 returns-2 : tie.Need-returns-2 invariant-loop decreases-loop
 returns-2 c =
     let g = c.before.before.before.before.before.before.before.args in
     let l = c.before.before.before.before.before.before.loop in
-    let name = nameIn g.t1 in
+    let name = name_in g.t1 in
     let taken : is_taken name l.i ≡ true = lt-ltb _ l.i (rw (← c.before.seat-named.ensures) c.if3.true) in
     let stop : l.i ≡ first (is_taken name) g.n = sym (here (is_taken name) _ l.i (omega arith) taken) ∙ l.invariant.1 in
     sym (lt-ltb _ g.n (rw (← stop) (omega arith)))
 
-pub is-doubled-spec : {M : Type 1} → statement M
-is-doubled-spec =
+pub is_doubled_spec : {M : Type 1} → statement M
+is_doubled_spec =
     tie.close
     (tie.spec
     invariant-loop

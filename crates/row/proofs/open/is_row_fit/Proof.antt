@@ -18,5 +18,5 @@ some c =
     let one : leb 1 c.before.before.args.seats ≡ true = le-leb 1 c.before.before.args.seats (omega (arith, c.before.if1.false)) in
     rw (one, c.is-share-fit.ensures)
 
-pub is-row-fit-spec : {M : Type 1} → statement M
-is-row-fit-spec = tie.close (tie.spec empty (λ c. search rules) (λ c. search rules) (λ c κs. search rules) some)
+pub is_row_fit_spec : {M : Type 1} → statement M
+is_row_fit_spec = tie.close (tie.spec empty (λ c. search rules) (λ c. search rules) (λ c κs. search rules) some)

@@ -2,7 +2,7 @@ use mathlib.Core.Path.{◌≡◌, sym, ◌∙◌}
 use mathlib.Core.Bool.{true, false}
 use borrow.Author.Rules.{rules}
 use Rattle.basis.specs.Choice.{choose}
-use Rattle.row.specs.Row.{isRowFit}
+use Rattle.row.specs.Row.{is_row_fit}
 use Rattle.row.specs.Round.{opened}
 use Rattle.row.proofs.Fit.{fit}
 use Rattle.row.proofs.open.open.Statement.{statement}
@@ -19,7 +19,7 @@ unfolding choose opened
 fits c =
     let measured = c.before.before.before in
     let g = measured.before.args in
-    let yes : isRowFit g.seats g.bytes ≡ true = sym measured.is-row-fit.ensures ∙ c.before.before.if1.true in
+    let yes : is_row_fit g.seats g.bytes ≡ true = sym measured.is-row-fit.ensures ∙ c.before.before.if1.true in
     rw (yes, ← c.before.task-of.ensures) c.begun.ensures
 
 unfit : tie.Need-returns-2
@@ -27,7 +27,7 @@ unfolding choose opened
 unfit c =
     let measured = c.before.before.before in
     let g = measured.before.args in
-    let no : isRowFit g.seats g.bytes ≡ false = sym measured.is-row-fit.ensures ∙ c.before.before.if1.false in
+    let no : is_row_fit g.seats g.bytes ≡ false = sym measured.is-row-fit.ensures ∙ c.before.before.if1.false in
     rw (no, ← c.before.task-of2.ensures) c.begun2.ensures
 
 pub open_spec : {M : Type 1} → statement M

@@ -10,11 +10,11 @@ found c =
     let sought = c.before.before.before in
     rw (← sought.seat-named.ensures, lt-ltb _ _ c.before.if1.true) c.second-round.ensures
 
-nobody-has-it : tie.Need-returns-2
+nobody_has_it : tie.Need-returns-2
 unfolding choose
-nobody-has-it c =
+nobody_has_it c =
     let sought = c.before.before.before.before in
     rw (← sought.seat-named.ensures, le-ltb _ _ c.before.before.if1.false) (rw c.before.silent.ensures at c.ended.ensures)
 
-pub addressed-spec : {M : Type 1} → statement M
-addressed-spec = tie.close (tie.spec (λ c κs. search rules) (λ c κs. search rules) found (λ c κs. search rules) (λ c κs. search rules) nobody-has-it)
+pub addressed_spec : {M : Type 1} → statement M
+addressed_spec = tie.close (tie.spec (λ c κs. search rules) (λ c κs. search rules) found (λ c κs. search rules) (λ c κs. search rules) nobody_has_it)

@@ -2,8 +2,8 @@ use borrow.Author.Rules.{rules}
 use Rattle.row.proofs.settle.by_scope.Statement.{statement}
 use Rattle.row.proofs.settle.by_scope.Tie as tie
 
-pub by-scope-spec : {M : Type 1} → statement M
-by-scope-spec =
+pub by_scope_spec : {M : Type 1} → statement M
+by_scope_spec =
     tie.close
     (tie.spec
     (λ c. search rules)

@@ -12,5 +12,5 @@ few : tie.Need-returns-2
 unfolding choose
 few c = rw (le-ltb 16 _ c.before.if1.false) c.settled.ensures
 
-pub settle-spec : {M : Type 1} → statement M
-settle-spec = tie.close (tie.spec (λ c κs. search rules) (λ c κs. search rules) over (λ c κs. search rules) few)
+pub settle_spec : {M : Type 1} → statement M
+settle_spec = tie.close (tie.spec (λ c κs. search rules) (λ c κs. search rules) over (λ c κs. search rules) few)

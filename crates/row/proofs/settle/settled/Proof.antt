@@ -15,9 +15,9 @@ doubled c =
 apart : tie.Need-returns-2
 apart c =
     let past = c.before.before in
-    by (λ (t : Progress). c.by-scope.result ≡ t) _
+    by (λ (t : Progress). c.by_scope_lem.result ≡ t) _
     (λ q. clash q (sym past.before.is-doubled.ensures ∙ past.if1.false))
-    (λ q. c.by-scope.ensures)
+    (λ q. c.by_scope_lem.ensures)
 
-pub settled-spec : {M : Type 1} → statement M
-settled-spec = tie.close (tie.spec (λ c κs. search rules) (λ c κs. search rules) (λ c κs. search rules) doubled (λ c κs. search rules) apart)
+pub settled_spec : {M : Type 1} → statement M
+settled_spec = tie.close (tie.spec (λ c κs. search rules) (λ c κs. search rules) (λ c κs. search rules) doubled (λ c κs. search rules) apart)

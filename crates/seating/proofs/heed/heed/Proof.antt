@@ -1,12 +1,12 @@
 use borrow.Author.Rules.{rules}
 use Rattle.basis.proofs.Choice.{by}
 use Rattle.basis.proofs.Tests.{clash}
-use Rattle.seating.specs.Heed.{Heed, heedOf, Heeds}
+use Rattle.seating.specs.Heed.{Heed, heed_of, Heeds}
 use Rattle.seating.proofs.heed.heed.Statement.{statement}
 use Rattle.seating.proofs.heed.heed.Tie as tie
 
 returns : tie.Need-returns
-unfolding heedOf
+unfolding heed_of
 returns c =
     let told = c.before.before.before.before in
     let s = c.before.before.before.before.before.before.before.before.before.before.before.args.s in
@@ -15,7 +15,7 @@ returns c =
     (λ e. clash told.before.before.before.if1.true e)
 
 returns-2 : tie.Need-returns-2
-unfolding heedOf
+unfolding heed_of
 returns-2 c =
     let told = c.before.before.before.before in
     let s = c.before.before.before.before.before.before.before.before.before.before.before.args.s in
@@ -23,8 +23,8 @@ returns-2 c =
     (λ e. clash e told.before.before.before.if1.false)
     (λ e. told.heed-alone.ensures)
 
-pub heed-spec : {M : Type 1} → statement M
-heed-spec =
+pub heed_spec : {M : Type 1} → statement M
+heed_spec =
     tie.close
     (tie.spec
     (λ c κs. search rules)

@@ -3,7 +3,7 @@ use borrow.Author.Rules.{rules}
 use lib.ListN.{set}
 use Rattle.results.specs.Number.{number_of}
 use Rattle.module.specs.declared.state.Module.{Module}
-use Rattle.seating.specs.Heed.{seatedWith}
+use Rattle.seating.specs.Heed.{seated_with}
 use Rattle.seating.proofs.heed.heed_alone.Statement.{statement}
 use Rattle.seating.proofs.heed.heed_alone.Tie as tie
 
@@ -16,13 +16,13 @@ returns c =
       sent = p.sent;
       read = p.read;
       whom = refl;
-      next = ap (λ (m : Module). seatedWith s (set s.row 0 m)) p.next;
+      next = ap (λ (m : Module). seated_with s (set s.row 0 m)) p.next;
       memory = p.memory;
       room_after = p.room_after;
     }
 
-pub heed-alone-spec : {M : Type 1} → statement M
-heed-alone-spec =
+pub heed_alone_spec : {M : Type 1} → statement M
+heed_alone_spec =
     tie.close
     (tie.spec
     (λ c. search rules)

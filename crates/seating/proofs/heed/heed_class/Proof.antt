@@ -2,7 +2,7 @@ use mathlib.Core.List.{List}
 use mathlib.Core.Path.{◌∙◌, ap}
 use borrow.Author.Rules.{rules}
 use Rattle.module.specs.declared.state.Module.{Module}
-use Rattle.seating.specs.Heed.{seatedWith}
+use Rattle.seating.specs.Heed.{seated_with}
 use Rattle.seating.proofs.heed.heed_class.Statement.{statement}
 use Rattle.seating.proofs.heed.heed_class.Tie as tie
 
@@ -18,10 +18,10 @@ returns c =
       sent = p.sent;
       read = p.read;
       whom = p.whom;
-      next = ap (λ (row : List Module). seatedWith g.s row) p.seats;
+      next = ap (λ (row : List Module). seated_with g.s row) p.seats;
       memory = p.memory;
       room_after = p.room_after;
     }
 
-pub heed-class-spec : {M : Type 1} → statement M
-heed-class-spec = tie.close (tie.spec (λ c κs. search rules) (λ c κs. search rules) (λ c. search rules) (λ c. search rules) returns)
+pub heed_class_spec : {M : Type 1} → statement M
+heed_class_spec = tie.close (tie.spec (λ c κs. search rules) (λ c κs. search rules) (λ c. search rules) (λ c. search rules) returns)

@@ -1,13 +1,13 @@
 use borrow.Author.Tests.{ne_eqb}
 use Rattle.basis.specs.Choice.{choose}
-use Rattle.shared.specs.Extended.{databaseDeed}
+use Rattle.shared.specs.Extended.{database_deed}
 use borrow.Author.Rules.{rules}
 use Rattle.shared.proofs.database.database_deed.Statement.{statement}
 use Rattle.shared.proofs.database.database_deed.Tie as tie
 
-pub database-deed-spec : {M : Type 1} → statement M
-unfolding databaseDeed choose
-database-deed-spec =
+pub database_deed_spec : {M : Type 1} → statement M
+unfolding database_deed choose
+database_deed_spec =
     tie.close
     (tie.spec
     (λ c κs. search rules)

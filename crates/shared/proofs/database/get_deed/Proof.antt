@@ -2,8 +2,8 @@ use borrow.Author.Rules.{rules}
 use Rattle.shared.proofs.database.get_deed.Statement.{statement}
 use Rattle.shared.proofs.database.get_deed.Tie as tie
 
-pub get-deed-spec : {M : Type 1} → statement M
-get-deed-spec =
+pub get_deed_spec : {M : Type 1} → statement M
+get_deed_spec =
     tie.close
     (tie.spec
     (λ c. search rules)

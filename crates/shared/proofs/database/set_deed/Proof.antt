@@ -2,8 +2,8 @@ use borrow.Author.Rules.{rules}
 use Rattle.shared.proofs.database.set_deed.Statement.{statement}
 use Rattle.shared.proofs.database.set_deed.Tie as tie
 
-pub set-deed-spec : {M : Type 1} → statement M
-set-deed-spec =
+pub set_deed_spec : {M : Type 1} → statement M
+set_deed_spec =
     tie.close
     (tie.spec
     (λ c. search rules)

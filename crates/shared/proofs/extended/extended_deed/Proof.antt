@@ -2,8 +2,8 @@ use borrow.Author.Rules.{rules}
 use Rattle.shared.proofs.extended.extended_deed.Statement.{statement}
 use Rattle.shared.proofs.extended.extended_deed.Tie as tie
 
-pub extended-deed-spec : {M : Type 1} → statement M
-extended-deed-spec =
+pub extended_deed_spec : {M : Type 1} → statement M
+extended_deed_spec =
     tie.close
     (tie.spec
     (λ c. search rules)

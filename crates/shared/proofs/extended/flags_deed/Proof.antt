@@ -6,9 +6,9 @@ use borrow.Author.Rules.{rules}
 use Rattle.shared.proofs.extended.flags_deed.Statement.{statement}
 use Rattle.shared.proofs.extended.flags_deed.Tie as tie
 
-pub flags-deed-spec : {M : Type 1} → statement M
+pub flags_deed_spec : {M : Type 1} → statement M
 unfolding limited choose
-flags-deed-spec =
+flags_deed_spec =
     tie.close
     (tie.spec
     (λ c κs. search rules)

@@ -6,9 +6,9 @@ use borrow.Author.Rules.{rules}
 use Rattle.shared.proofs.flags.clear_bit.Statement.{statement}
 use Rattle.shared.proofs.flags.clear_bit.Tie as tie
 
-pub clear-bit-spec : {M : Type 1} → statement M
+pub clear_bit_spec : {M : Type 1} → statement M
 unfolding choose
-clear-bit-spec =
+clear_bit_spec =
     tie.close
     (tie.spec
     (λ c κs. search rules)

@@ -5,9 +5,9 @@ use borrow.Author.Rules.{rules}
 use Rattle.shared.proofs.flags.flagged.Statement.{statement}
 use Rattle.shared.proofs.flags.flagged.Tie as tie
 
-pub flagged-spec : {M : Type 1} → statement M
+pub flagged_spec : {M : Type 1} → statement M
 unfolding flagged choose
-flagged-spec =
+flagged_spec =
     tie.close
     (tie.spec
     (λ c κs. search rules)

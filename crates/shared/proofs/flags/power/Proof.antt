@@ -14,8 +14,8 @@ last b h g e3 e4 e5 e6 = omega arith
 seven : (b : ℕ) → b < 8 → (b ≡ 0 → ⊥) → (b ≡ 1 → ⊥) → (b ≡ 2 → ⊥) → (b ≡ 3 → ⊥) → (b ≡ 4 → ⊥) → (b ≡ 5 → ⊥) → (b ≡ 6 → ⊥) → b ≡ 7
 seven b h e0 e1 e2 e3 e4 e5 e6 = last b h (three b e0 e1 e2) e3 e4 e5 e6
 
-pub power-spec : {M : Type 1} → statement M
-power-spec =
+pub power_spec : {M : Type 1} → statement M
+power_spec =
     tie.close
     (tie.spec
     (λ c. rw c.match.keys1)

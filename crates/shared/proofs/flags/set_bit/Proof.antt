@@ -10,9 +10,9 @@ use borrow.Author.Rules.{rules}
 use Rattle.shared.proofs.flags.set_bit.Statement.{statement}
 use Rattle.shared.proofs.flags.set_bit.Tie as tie
 
-pub set-bit-spec : {M : Type 1} → statement M
+pub set_bit_spec : {M : Type 1} → statement M
 unfolding choose
-set-bit-spec =
+set_bit_spec =
     tie.close
     (tie.spec
     (λ c κs. search rules)

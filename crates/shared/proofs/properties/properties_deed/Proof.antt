@@ -1,13 +1,13 @@
 use borrow.Author.Tests.{ne_eqb}
 use Rattle.basis.specs.Choice.{choose}
-use Rattle.shared.specs.Extended.{propertiesDeed}
+use Rattle.shared.specs.Extended.{properties_deed}
 use borrow.Author.Rules.{rules}
 use Rattle.shared.proofs.properties.properties_deed.Statement.{statement}
 use Rattle.shared.proofs.properties.properties_deed.Tie as tie
 
-pub properties-deed-spec : {M : Type 1} → statement M
-unfolding propertiesDeed choose
-properties-deed-spec =
+pub properties_deed_spec : {M : Type 1} → statement M
+unfolding properties_deed choose
+properties_deed_spec =
     tie.close
     (tie.spec
     (λ c κs. search rules)

@@ -2,8 +2,8 @@ use borrow.Author.Rules.{rules}
 use Rattle.shared.proofs.standard.open_deed.Statement.{statement}
 use Rattle.shared.proofs.standard.open_deed.Tie as tie
 
-pub open-deed-spec : {M : Type 1} → statement M
-open-deed-spec =
+pub open_deed_spec : {M : Type 1} → statement M
+open_deed_spec =
     tie.close
     (tie.spec
     (λ c. search rules)

@@ -2,8 +2,8 @@ use borrow.Author.Rules.{rules}
 use Rattle.shared.proofs.table.shared_deed.Statement.{statement}
 use Rattle.shared.proofs.table.shared_deed.Tie as tie
 
-pub shared-deed-spec : {M : Type 1} → statement M
-shared-deed-spec =
+pub shared_deed_spec : {M : Type 1} → statement M
+shared_deed_spec =
     tie.close
     (tie.spec
     (λ c. search rules)

@@ -16,8 +16,8 @@ decreases-loop line₀ at seats tally n to₀ i₀ t9 t10 t11 t12 t13 line to i 
 loop-holds : tie.Need-loop-init invariant-loop decreases-loop
 loop-holds c = (refl, omega (arith, c.min2.ensures), omega arith, omega (arith, c.before.min.ensures))
 
-pub put-seats-spec : {M : Type 1} → statement M
-put-seats-spec =
+pub put_seats_spec : {M : Type 1} → statement M
+put_seats_spec =
     tie.close
     (tie.spec
     invariant-loop

@@ -20,8 +20,8 @@ loop-holds c = (refl, omega arith, omega arith, omega (arith, c.min.ensures))
 returns : tie.Need-returns invariant-loop decreases-loop
 returns c = counts c.before.loop.at c.before.loop.line (omega arith)
 
-pub put-tally-spec : {M : Type 1} → statement M
-put-tally-spec =
+pub put_tally_spec : {M : Type 1} → statement M
+put_tally_spec =
     tie.close
     (tie.spec
     invariant-loop

@@ -6,9 +6,9 @@ use Rattle.wire.specs.Commands.{extendeds}
 use Rattle.wire.proofs.command.extended_of.Statement.{statement}
 use Rattle.wire.proofs.command.extended_of.Tie as tie
 
-pub extended-of-spec : {M : Type 1} → statement M
+pub extended_of_spec : {M : Type 1} → statement M
 unfolding extendeds choose
-extended-of-spec =
+extended_of_spec =
     tie.close
     (tie.spec
     (λ c. rw c.match.keys1)

@@ -3,13 +3,13 @@ use native.Mathlib.Omega.{arith}
 use borrow.Author.Rules.{rules}
 use borrow.Author.Tests.{le-leb, lt-leb}
 use Rattle.basis.specs.Choice.{choose}
-use Rattle.wire.specs.Commands.{groupCommandOf}
+use Rattle.wire.specs.Commands.{group_command_of}
 use Rattle.wire.proofs.command.group_command_of.Statement.{statement}
 use Rattle.wire.proofs.command.group_command_of.Tie as tie
 
-pub group-command-of-spec : {M : Type 1} → statement M
-unfolding groupCommandOf choose
-group-command-of-spec =
+pub group_command_of_spec : {M : Type 1} → statement M
+unfolding group_command_of choose
+group_command_of_spec =
     tie.close
     (tie.spec
     (λ c κs. search rules)

@@ -6,9 +6,9 @@ use Rattle.wire.specs.Commands.{standards}
 use Rattle.wire.proofs.command.standard_of.Statement.{statement}
 use Rattle.wire.proofs.command.standard_of.Tie as tie
 
-pub standard-of-spec : {M : Type 1} → statement M
+pub standard_of_spec : {M : Type 1} → statement M
 unfolding standards choose
-standard-of-spec =
+standard_of_spec =
     tie.close
     (tie.spec
     (λ c. rw c.match.keys1)

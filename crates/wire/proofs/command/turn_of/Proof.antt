@@ -4,9 +4,9 @@ use Rattle.basis.specs.Choice.{choose}
 use Rattle.wire.proofs.command.turn_of.Statement.{statement}
 use Rattle.wire.proofs.command.turn_of.Tie as tie
 
-pub turn-of-spec : {M : Type 1} → statement M
+pub turn_of_spec : {M : Type 1} → statement M
 unfolding choose
-turn-of-spec =
+turn_of_spec =
     tie.close
     (tie.spec
     (λ c. rw (le-leb _ 0x12 c.if1.true))

@@ -3,9 +3,9 @@ use borrow.Author.Rules.{rules}
 use Rattle.wire.proofs.read.command_of.Statement.{statement}
 use Rattle.wire.proofs.read.command_of.Tie as tie
 
-pub command-of-spec : {M : Type 1} → statement M
+pub command_of_spec : {M : Type 1} → statement M
 unfolding choose
-command-of-spec =
+command_of_spec =
     tie.close
     (tie.spec
     (λ c κs. search rules)

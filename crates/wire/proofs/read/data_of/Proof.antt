@@ -12,8 +12,8 @@ returns c =
     let s = c.before.args.message.now in
     sym (blank 14 9 s (omega (arith, nine s c.before.requires c.if1.true)))
 
-pub data-of-spec : {M : Type 1} → statement M
-data-of-spec =
+pub data_of_spec : {M : Type 1} → statement M
+data_of_spec =
     tie.close
     (tie.spec
     returns

@@ -3,13 +3,13 @@ use lib.ListN.{length}
 use borrow.Author.Rules.{rules}
 use borrow.Author.Tests.{lt-ltb, le-ltb}
 use Rattle.basis.specs.Choice.{choose}
-use Rattle.wire.specs.Kinds.{heardAs}
+use Rattle.wire.specs.Kinds.{heard_as}
 use Rattle.wire.proofs.read.heard_as.Statement.{statement}
 use Rattle.wire.proofs.read.heard_as.Tie as tie
 
-pub heard-as-spec : {M : Type 1} → statement M
-unfolding heardAs choose
-heard-as-spec =
+pub heard_as_spec : {M : Type 1} → statement M
+unfolding heard_as choose
+heard_as_spec =
     tie.close
     (tie.spec
     (λ c. rw (lt-ltb (length c.before.before.args.message.now) 9 c.if1.true))

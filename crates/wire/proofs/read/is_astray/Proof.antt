@@ -2,8 +2,8 @@ use borrow.Author.Rules.{rules}
 use Rattle.wire.proofs.read.is_astray.Statement.{statement}
 use Rattle.wire.proofs.read.is_astray.Tie as tie
 
-pub is-astray-spec : {M : Type 1} → statement M
-is-astray-spec =
+pub is_astray_spec : {M : Type 1} → statement M
+is_astray_spec =
     tie.close
     (tie.spec
     (λ c. search rules)

@@ -21,6 +21,6 @@ returns-3 c =
     let s = c.before.before.before.before.before.args.message.now in
     rw (c.is-sum-right.ensures, by_length s c.before.before.before.before.before.requires, eq-eqb (length s) 23 c.before.before.before.if1.false, sym c.before.before.is-exempt.ensures ∙ c.before.if2.false)
 
-pub is-sum-wrong-spec : {M : Type 1} → statement M
-is-sum-wrong-spec =
+pub is_sum_wrong_spec : {M : Type 1} → statement M
+is_sum_wrong_spec =
     tie.close (tie.spec returns (λ c κs. search rules) returns-2 (λ c κs. search rules) returns-3)

@@ -6,7 +6,7 @@ use lib.Dec.{eqb}
 use borrow.Author.Rules.{rules}
 use borrow.Author.Tests.{ne_eqb}
 use Rattle.basis.specs.Choice.{choose}
-use Rattle.wire.specs.Bytes.{isExtended}
+use Rattle.wire.specs.Bytes.{is_extended}
 use Rattle.wire.proofs.read.is_whole.Statement.{statement}
 use Rattle.wire.proofs.read.is_whole.Tie as tie
 
@@ -25,12 +25,12 @@ unfolding choose
 other n true p q = sym (ne_eqb n 23 q)
 other n false p q = sym (ne_eqb n 9 p)
 
-pub is-whole-spec : {M : Type 1} → statement M
-is-whole-spec =
+pub is_whole_spec : {M : Type 1} → statement M
+is_whole_spec =
     tie.close
     (tie.spec
     (λ c κs. search rules)
     (λ c κs. search rules)
     (λ c. rw (c.is-extended.ensures, c.before.match.keys1) (nine _))
     (λ c. rw (c.is-extended2.ensures, c.before.match.keys2) (long _))
-    (λ c. other _ (isExtended c.before.before.args.message.now) c.match.rest.0.1 c.match.rest.1))
+    (λ c. other _ (is_extended c.before.before.args.message.now) c.match.rest.0.1 c.match.rest.1))

@@ -5,9 +5,9 @@ use Rattle.wire.specs.Kinds.{type_of, kind_of}
 use Rattle.wire.proofs.read.kind_of.Statement.{statement}
 use Rattle.wire.proofs.read.kind_of.Tie as tie
 
-pub kind-of-spec : {M : Type 1} → statement M
+pub kind_of_spec : {M : Type 1} → statement M
 unfolding kind_of choose
-kind-of-spec =
+kind_of_spec =
     tie.close
     (tie.spec
     (λ c κs. search rules)

@@ -4,9 +4,9 @@ use Rattle.basis.specs.Choice.{choose}
 use Rattle.wire.proofs.read.named_in.Statement.{statement}
 use Rattle.wire.proofs.read.named_in.Tie as tie
 
-pub named-in-spec : {M : Type 1} → statement M
+pub named_in_spec : {M : Type 1} → statement M
 unfolding choose
-named-in-spec =
+named_in_spec =
     tie.close
     (tie.spec
     (λ c κs. search rules)

@@ -34,8 +34,8 @@ returns c =
     let column : sum ≡ sum_of (drop 7 s) = omega arith in
     ap (λ (n : ℕ). eqb (n % 256) 0) column
 
-pub is-sum-right-spec : {M : Type 1} → statement M
-is-sum-right-spec =
+pub is_sum_right_spec : {M : Type 1} → statement M
+is_sum_right_spec =
     tie.close
     (tie.spec
     invariant-loop

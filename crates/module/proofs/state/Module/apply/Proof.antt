@@ -2,8 +2,8 @@ use borrow.Author.Rules.{rules}
 use Rattle.module.proofs.state.Module.apply.Statement.{statement}
 use Rattle.module.proofs.state.Module.apply.Tie as tie
 
-pub apply-spec : {M : Type 1} → statement M
-apply-spec =
+pub apply_spec : {M : Type 1} → statement M
+apply_spec =
     tie.close
     (tie.spec
     (λ c. search rules)

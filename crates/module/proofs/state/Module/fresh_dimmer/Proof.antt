@@ -2,8 +2,8 @@ use borrow.Author.Rules.{rules}
 use Rattle.module.proofs.state.Module.fresh_dimmer.Statement.{statement}
 use Rattle.module.proofs.state.Module.fresh_dimmer.Tie as tie
 
-pub fresh-dimmer-spec : {M : Type 1} → statement M
-fresh-dimmer-spec =
+pub fresh_dimmer_spec : {M : Type 1} → statement M
+fresh_dimmer_spec =
     tie.close
     (tie.spec
     (λ c κs. search rules)

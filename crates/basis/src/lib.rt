@@ -1,4 +1,6 @@
 // What every layer is written with. Its definitions stand in specs/ and their laws in proofs/; it has the loop that lays bytes, and the lesser of two numbers.
+#![tactic(auto)]
+
 ghost use Rattle.std.specs.Prelude.{◌≡◌, min};
 ghost use Rattle.basis.specs.Laid.{laid_if_fits};
 

@@ -15,14 +15,14 @@ pub(crate) type Image = [u8; places::LENGTH];
 // What a byte holds that no value of a fresh module stands at, so that a write there would be shown.
 const UNUSED: u8 = 0xa5;
 
-#[derive(Drop)]
+#[derive(Clone, Copy)]
 pub(crate) struct State {
     pub module: Image,
     pub links: [u8; 2056],
     pub size: usize,
 }
 
-#[derive(Drop)]
+#[derive(Clone, Copy)]
 pub(crate) struct Board {
     pub start: State,
     pub now: State,

@@ -11,6 +11,8 @@
 //                    are the result, the records read, the reply and the link memory after it; `..` is any byte
 //   then             is the module after it: what is named, `then level 80`, and all else as it was before the message
 // The names are flags, led, house, unit and delta; level, ramp and on-level of a dimmer; top and bottom, 01 on or 00 off, of an outlet.
+#![tactic(auto)]
+
 mod board;
 mod compare;
 mod text;

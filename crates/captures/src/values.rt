@@ -86,7 +86,7 @@ pub(crate) fn expected(board: Board, line: &[u8]) -> Board {
 }
 
 // What a line makes of an image, and whether all of the line was read.
-#[derive(Drop)]
+#[derive(Clone, Copy)]
 struct Made {
     image: Image,
     is_read: bool,

@@ -7,7 +7,7 @@ use module::state::Module;
 use row::outcome::ClassOutcome;
 use row::progress::{ClassAnswer, silent};
 
-#[derive(Drop)]
+#[derive(Clone, Copy)]
 pub struct SeatsAnswer {
     pub answer: ClassAnswer,
     pub seats: [Module; 16],

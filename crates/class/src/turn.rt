@@ -13,7 +13,7 @@ use wire::address::Address;
 use wire::kind::Message;
 
 // The module afterwards, and the row's progress.
-#[derive(Drop)]
+#[derive(Clone, Copy)]
 pub struct Tended {
     pub next: Module,
     pub progress: Progress,

@@ -1,4 +1,6 @@
 // What is decided of a message, by value: whom the module looks for, and what comes of what was found ("Result numbers", "Groups").
+#![tactic(auto)]
+
 mod dispatch; // by the module's load
 mod groups; // broadcasts and cleanups
 mod plan; // by the kind of message

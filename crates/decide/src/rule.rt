@@ -12,7 +12,7 @@ use results::Outcome;
 use wire::kind::{Message, MessageKind, Reading};
 
 // The plan, and how many records were read for it.
-#[derive(Drop)]
+#[derive(Clone, Copy)]
 pub struct Ruling {
     pub plan: Plan,
     pub read: usize,

@@ -15,7 +15,7 @@ use seating::heed::{Heeded, Seating};
 use text::line::Tally;
 
 // Who sits there, how many frames had each result and were for each seat, and whether more frames are served.
-#[derive(Drop)]
+#[derive(Clone, Copy)]
 pub(crate) struct Desk {
     pub seating: Seating,
     pub tally: Tally,

@@ -4,7 +4,7 @@ ghost use Rattle.io.specs.Counts.{IsPrefixLen};
 ghost use Rattle.desk.specs.Input.{Grown};
 
 // How many bytes are there after a read.
-#[derive(Drop)]
+#[derive(Clone, Copy)]
 pub(crate) enum Got {
     More(usize),
     End,
@@ -28,7 +28,7 @@ pub(crate) fn read_behind(fd: i32, bytes: &mut [u8], n: usize) -> Got
     Got::More(n + more)
 }
 
-#[derive(Drop)]
+#[derive(Clone, Copy)]
 pub(crate) struct Loaded {
     pub size: usize,
     pub is_fine: bool,

@@ -1,4 +1,6 @@
 // What the programs share: link memory from links.bin, frames from standard input, and who sits there ("The program").
+#![tactic(auto)]
+
 mod answer;
 mod input;
 mod serve;
@@ -15,7 +17,7 @@ use serve::serve_until_end;
 use word::{ClassWish, Wish, asked, asked_of_class, list_class_words, list_words};
 
 // What is written for each frame.
-#[derive(Drop)]
+#[derive(Clone, Copy)]
 pub enum Show {
     // Its reply, in frames.
     Frames,

@@ -11,7 +11,7 @@ use libc::STDIN_FILENO;
 use modem::arrived::{Seen, keep, seek};
 
 // How far a desk has come, in bytes.
-#[derive(Drop)]
+#[derive(Clone, Copy)]
 struct Progress {
     desk: Desk,
     count: usize,

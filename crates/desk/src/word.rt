@@ -7,14 +7,14 @@ use libc::STDERR_FILENO;
 use roster::word::{Kind, Meaning, is_same, named};
 
 // At a desk: which kind of module sits there, and what is written for each frame.
-#[derive(Drop)]
+#[derive(Clone, Copy)]
 pub(crate) enum Wish {
     Bench(Kind, Show),
     Unknown,
 }
 
 // For a class, whose kinds stand in a file: what is written for each frame.
-#[derive(Drop)]
+#[derive(Clone, Copy)]
 pub(crate) enum ClassWish {
     Shown(Show),
     Unknown,

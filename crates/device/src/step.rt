@@ -13,7 +13,7 @@ use wire::kind::Message;
 use wire::read::read;
 
 // What a call answers: the reply's length and the module afterwards beside the outcome and the records read.
-#[derive(Drop)]
+#[derive(Clone, Copy)]
 pub struct Answer {
     pub outcome: Outcome,
     pub length: usize,

@@ -7,7 +7,7 @@ use load::state::Lamp;
 use wire::command::GroupCommand;
 
 // The lamp afterwards, and whether the record fits a row.
-#[derive(Drop)]
+#[derive(Clone, Copy)]
 pub struct LampGroup {
     pub lamp: Lamp,
     pub is_listed: bool,

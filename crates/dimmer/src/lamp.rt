@@ -5,7 +5,7 @@ ghost use Rattle.dimmer.specs.Lamp.{becomes, stays};
 use load::entry::Entry;
 use load::state::Lamp;
 
-#[derive(Drop)]
+#[derive(Clone, Copy)]
 pub struct LampEntry {
     pub lamp: Lamp,
     pub entry: Entry,

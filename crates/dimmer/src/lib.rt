@@ -1,4 +1,6 @@
 // The dimmer: its lamp, and what its own commands and its groups do to it, decided by value ("Direct commands", "Groups").
+#![tactic(auto)]
+
 pub mod groups; // what a group's record does
 pub mod lamp; // what the table answers
 mod levels; // levels and per cent

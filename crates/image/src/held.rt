@@ -10,7 +10,7 @@ use module::state::{Identity, Module};
 use wire::address::Address;
 
 // Whether it is an image, and the module that it holds; where it is none, nobody.
-#[derive(Drop)]
+#[derive(Clone, Copy)]
 pub struct Held {
     pub is_one: bool,
     pub module: Module,

@@ -1,4 +1,6 @@
 // Text laid behind the first `at` bytes of a line; how many bytes are laid then. What no longer fits is left out.
+#![tactic(auto)]
+
 ghost use Rattle.io.specs.Counts.{IsPrefixLen};
 
 use basis::min;

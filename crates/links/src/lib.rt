@@ -1,4 +1,6 @@
 // Link memory ("Link memory").
+#![tactic(auto)]
+
 pub mod mark; // records up to an end mark
 pub mod memory; // fit or not, and records of eight bytes
 pub mod name; // names of records on the wire

@@ -5,7 +5,7 @@ ghost use Rattle.links.specs.Record.{is_fit, records, start_of, record_at, recor
 use wire::address::Address;
 
 // A record's eight bytes by name.
-#[derive(Drop)]
+#[derive(Clone, Copy)]
 pub struct Link {
     pub flags: u8,
     pub group: u8,

@@ -2,7 +2,7 @@
 ghost use Rattle.std.specs.Prelude.{◌≡◌};
 ghost use Rattle.links.specs.Name.{name_of, meant, place_of};
 
-#[derive(Drop)]
+#[derive(Clone, Copy)]
 pub enum Place {
     Record(usize),
     Illegal,

@@ -6,7 +6,7 @@ use crate::memory::{Link, bears, is_end_mark, is_in_use, is_responder, link_of, 
 use wire::address::Address;
 
 // Whose record a search looks for.
-#[derive(Drop)]
+#[derive(Clone, Copy)]
 pub enum Wanted {
     // No search is made.
     Nobody,
@@ -17,7 +17,7 @@ pub enum Wanted {
 }
 
 // What settled a search.
-#[derive(Drop)]
+#[derive(Clone, Copy)]
 pub enum Found {
     NoSearch,
     Match(Link),
@@ -26,7 +26,7 @@ pub enum Found {
 }
 
 // That, and the number of records read.
-#[derive(Drop)]
+#[derive(Clone, Copy)]
 pub struct Searched {
     pub read: usize,
     pub found: Found,

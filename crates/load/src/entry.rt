@@ -1,6 +1,6 @@
 // All that a kind's own table can say of a direct command. The load afterwards stands beside it; what else a module has, no kind sees.
 
-#[derive(Drop)]
+#[derive(Clone, Copy)]
 pub enum Entry {
     // Carried out, and ACKed with both commands: the load is the one beside it.
     Done,
@@ -15,7 +15,7 @@ pub enum Entry {
 }
 
 // What Get Properties shows of a kind ("Direct commands, extended").
-#[derive(Drop)]
+#[derive(Clone, Copy)]
 pub struct Properties {
     pub ramp: u8,
     pub on_level: u8,

@@ -2,13 +2,13 @@
 ghost use Rattle.std.specs.Prelude.{◌≡◌};
 ghost use Rattle.load.specs.Fresh.{fresh_lamp, fresh_sockets};
 
-#[derive(Drop)]
+#[derive(Clone, Copy)]
 pub enum Load {
     Dimmer(Lamp),
     Outlet(Sockets),
 }
 
-#[derive(Drop)]
+#[derive(Clone, Copy)]
 pub struct Lamp {
     pub level: u8,
     pub ramp: u8,
@@ -16,7 +16,7 @@ pub struct Lamp {
 }
 
 // Each on or off.
-#[derive(Drop)]
+#[derive(Clone, Copy)]
 pub struct Sockets {
     pub top: bool,
     pub bottom: bool,

@@ -4,7 +4,7 @@ ghost use Rattle.basis.specs.Laid.{laid};
 ghost use Rattle.modem.specs.Arrived.{stops_at, frame_start, size_at, seek_of};
 
 // Where a whole frame stands and how long it is; or where the bytes begin that are to be kept until more arrive.
-#[derive(Drop)]
+#[derive(Clone, Copy)]
 pub enum Seen {
     Whole(usize, usize),
     Waiting(usize),

@@ -8,7 +8,7 @@ use row::progress::Whom;
 use seating::heed::{Heeded, Seating, heed};
 
 // What its message came to, and how many bytes of frames there are.
-#[derive(Drop)]
+#[derive(Clone, Copy)]
 pub struct Served {
     pub heeded: Heeded,
     pub sent: usize,

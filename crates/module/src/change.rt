@@ -5,7 +5,7 @@ ghost use Rattle.module.specs.Change.{apply};
 use crate::state::Module;
 use load::state::Load;
 
-#[derive(Drop)]
+#[derive(Clone, Copy)]
 pub enum Change {
     Nothing,
     Flags(u8),

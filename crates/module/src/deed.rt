@@ -8,7 +8,7 @@ use load::state::Load;
 use reply::due::DataBytes;
 
 // What the ACK says.
-#[derive(Drop)]
+#[derive(Clone, Copy)]
 pub enum Ack {
     // Both commands, as they came.
     Repeated,
@@ -23,7 +23,7 @@ pub enum Ack {
     WithRecords(u8, usize, usize),
 }
 
-#[derive(Drop)]
+#[derive(Clone, Copy)]
 pub enum Deed {
     Done(Change, Ack),
     // Over the first bytes of this record go so many of those from Data 6 on; the ACK repeats both commands.
@@ -33,14 +33,14 @@ pub enum Deed {
 }
 
 // What the table of the module's kind has for a command, and the load afterwards.
-#[derive(Drop)]
+#[derive(Clone, Copy)]
 pub struct LoadEntry {
     pub load: Load,
     pub entry: Entry,
 }
 
 // What the deciding record of a group brings about: another load, or nothing that the kind lists ("Groups").
-#[derive(Drop)]
+#[derive(Clone, Copy)]
 pub enum GroupDeed {
     Done(Load),
     Unlisted,

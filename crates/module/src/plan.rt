@@ -10,7 +10,7 @@ use results::Outcome;
 use wire::address::Address;
 use wire::request::Request;
 
-#[derive(Drop)]
+#[derive(Clone, Copy)]
 pub struct Plan {
     pub outcome: Outcome,
     pub change: Change,
@@ -19,7 +19,7 @@ pub struct Plan {
 }
 
 // What is written to link memory.
-#[derive(Drop)]
+#[derive(Clone, Copy)]
 pub enum Writing {
     Nothing,
     // The record, and how many bytes, from Data 6 on, go over its first ones; they stay in the message, since no enum holds an array.

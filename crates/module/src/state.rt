@@ -5,7 +5,7 @@ ghost use Rattle.module.specs.Module.{fresh_with, fresh_dimmer, fresh_outlet};
 use load::state::{Load, fresh_lamp, fresh_sockets};
 use wire::address::Address;
 
-#[derive(Drop)]
+#[derive(Clone, Copy)]
 pub struct Identity {
     pub address: Address,
     pub category: u8,
@@ -14,7 +14,7 @@ pub struct Identity {
     pub revision: u8,
 }
 
-#[derive(Drop)]
+#[derive(Clone, Copy)]
 pub struct Module {
     pub identity: Identity,
     pub flags: u8,

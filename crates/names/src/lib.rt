@@ -1,5 +1,7 @@
 // What a message asks for: by the kinds and commands of `wire`, of which every variant is listed, and a command to a load by its byte, as the
 // tables of the kinds list it.
+#![tactic(auto)]
+
 ghost use Rattle.io.specs.Counts.{IsPrefixLen};
 
 use letters::put;
@@ -7,7 +9,7 @@ use wire::command::{Command, Extended, GroupCommand, ModuleCommand, OpenCommand,
 use wire::kind::MessageKind;
 
 // What a load is at, a case for each kind of module.
-#[derive(Drop)]
+#[derive(Clone, Copy)]
 pub enum LoadShown {
     Level(u8),
     // The top one and the bottom one, on or off.

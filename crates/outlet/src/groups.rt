@@ -7,7 +7,7 @@ use load::state::Sockets;
 use wire::command::GroupCommand;
 
 // The sockets afterwards, and whether the record fits a row.
-#[derive(Drop)]
+#[derive(Clone, Copy)]
 pub struct SocketsGroup {
     pub sockets: Sockets,
     pub is_listed: bool,

@@ -5,7 +5,7 @@ ghost use Rattle.outlet.specs.Sockets.{becomes, stays};
 use load::entry::Entry;
 use load::state::Sockets;
 
-#[derive(Drop)]
+#[derive(Clone, Copy)]
 pub struct SocketsEntry {
     pub sockets: Sockets,
     pub entry: Entry,

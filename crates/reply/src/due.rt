@@ -2,7 +2,7 @@
 use wire::address::Address;
 
 // What type of message a reply is; its flags byte tells it on the wire.
-#[derive(Drop)]
+#[derive(Clone, Copy)]
 pub enum ReplyType {
     Ack,
     Nak,
@@ -13,7 +13,7 @@ pub enum ReplyType {
 }
 
 // The standard message that a reply begins with, to the sender.
-#[derive(Drop)]
+#[derive(Clone, Copy)]
 pub struct Head {
     pub reply_type: ReplyType,
     pub to: Address,
@@ -24,7 +24,7 @@ pub struct Head {
 }
 
 // Data 1 to Data 14 by name, since what is due is an enum, and no enum holds an array.
-#[derive(Drop)]
+#[derive(Clone, Copy)]
 pub struct DataBytes {
     pub d1: u8,
     pub d2: u8,
@@ -43,7 +43,7 @@ pub struct DataBytes {
 }
 
 // The whole reply that is due.
-#[derive(Drop)]
+#[derive(Clone, Copy)]
 pub enum Due {
     Nothing,
     // An ACK or a NAK alone.

@@ -12,7 +12,7 @@ use crate::records::{count_sent, put_records};
 use wire::address::Address;
 
 // The reply's length where it was sent whole; a room that is too short for it is left as it was.
-#[derive(Drop)]
+#[derive(Clone, Copy)]
 pub enum Sent {
     Whole(usize),
     Short,

@@ -6,7 +6,7 @@ ghost use Rattle.roster.specs.Bytes.{digit_of, is_byte, byte_of, no_bytes, bytes
 use crate::words::{word_end, word_start};
 
 // Zeros stand behind the first `count`.
-#[derive(Drop)]
+#[derive(Clone, Copy)]
 pub(crate) struct Bytes {
     pub(crate) bytes: [u8; 7],
     pub(crate) count: usize,

@@ -9,7 +9,7 @@ use crate::words::{bare_length, word_end, word_start};
 use module::state::{Identity, Module};
 use wire::address::Address;
 
-#[derive(Drop)]
+#[derive(Clone, Copy)]
 pub enum Reading {
     // No word stands there.
     Nothing,
@@ -19,7 +19,7 @@ pub enum Reading {
 }
 
 // The module is the one that it names; where it names none, nobody.
-#[derive(Drop)]
+#[derive(Clone, Copy)]
 pub struct Line {
     pub reading: Reading,
     pub module: Module,

@@ -5,7 +5,7 @@ ghost use Rattle.roster.specs.Roster.{text_start, line_end, line_next, empty_ros
 use crate::line::{Line, Reading, line_of, nobody};
 use module::state::Module;
 
-#[derive(Drop)]
+#[derive(Clone, Copy)]
 pub struct Roster {
     // The first sixteen modules, in their places.
     pub row: [Module; 16],

@@ -2,13 +2,13 @@
 ghost use Rattle.std.specs.Prelude.{◌≡◌};
 ghost use Rattle.roster.specs.Word.{is_same, named, small_of, small_letters};
 
-#[derive(Drop)]
+#[derive(Clone, Copy)]
 pub enum Kind {
     Dimmer,
     Outlet,
 }
 
-#[derive(Drop)]
+#[derive(Clone, Copy)]
 pub enum Meaning {
     Kind(Kind),
     Unknown,

@@ -4,7 +4,7 @@ ghost use Rattle.row.specs.Number.{class_number_of};
 
 use results::{Outcome, number};
 
-#[derive(Drop)]
+#[derive(Clone, Copy)]
 pub enum ClassOutcome {
     Single(Outcome),
     Doubled,

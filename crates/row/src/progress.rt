@@ -7,7 +7,7 @@ use crate::outcome::ClassOutcome;
 use wire::address::Address;
 
 // Whom a message was for, as far as it was served.
-#[derive(Drop)]
+#[derive(Clone, Copy)]
 pub enum Whom {
     // By its place in the row.
     Seat(usize),
@@ -16,7 +16,7 @@ pub enum Whom {
 }
 
 // The outcome, the reply's length and the records read, and whom it was for.
-#[derive(Drop)]
+#[derive(Clone, Copy)]
 pub struct ClassAnswer {
     pub outcome: ClassOutcome,
     pub length: usize,
@@ -25,7 +25,7 @@ pub struct ClassAnswer {
 }
 
 // What a seat's turn is for.
-#[derive(Drop)]
+#[derive(Clone, Copy)]
 pub enum Round {
     // Its address is noted.
     Note,
@@ -36,7 +36,7 @@ pub enum Round {
 }
 
 // Whom a message is for, as far as its reading tells.
-#[derive(Drop)]
+#[derive(Clone, Copy)]
 pub enum Scope {
     // Nobody, as it is too short or too long: result 1.
     Ill,
@@ -47,7 +47,7 @@ pub enum Scope {
 }
 
 // What stays during a message.
-#[derive(Drop)]
+#[derive(Clone, Copy)]
 pub struct Task {
     pub seats: usize,
     // The bytes of a share.
@@ -57,7 +57,7 @@ pub struct Task {
 }
 
 // What moves comes first: the walk along the row reads the seat and the answer, by their places here.
-#[derive(Drop)]
+#[derive(Clone, Copy)]
 pub struct Progress {
     // Whose turn it is; the number of seats where no turn is left.
     pub seat: usize,

@@ -9,7 +9,7 @@ use row::outcome::class_number;
 use row::progress::Whom;
 
 // A module alone has the first place; a class has the first `count`.
-#[derive(Drop)]
+#[derive(Clone, Copy)]
 pub struct Seating {
     pub row: [Module; 16],
     pub count: usize,
@@ -18,7 +18,7 @@ pub struct Seating {
 
 // The paper's number, the reply's length, the records read, whom it was for, and who sits there afterwards. A module alone is the first
 // seat.
-#[derive(Drop)]
+#[derive(Clone, Copy)]
 pub struct Heeded {
     pub number: u8,
     pub length: usize,

@@ -1,4 +1,6 @@
 // What every kind of module does alike ("Direct commands").
+#![tactic(auto)]
+
 mod database; // extended 2F
 mod extended; // direct commands, extended
 mod flags; // the flag rule

@@ -8,7 +8,7 @@ use names::{LoadShown, put_kind, put_name};
 use wire::read::heard_as;
 
 // What came of a frame, as the line shows it beside the bytes.
-#[derive(Drop)]
+#[derive(Clone, Copy)]
 pub struct Shown {
     pub result: u8,
     pub read: u64,

@@ -2,7 +2,7 @@
 ghost use Rattle.std.specs.Prelude.{◌≡◌};
 ghost use Rattle.wire.specs.Bytes.{equals};
 
-#[derive(Drop)]
+#[derive(Clone, Copy)]
 pub struct Address {
     pub high: u8,
     pub middle: u8,

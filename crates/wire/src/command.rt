@@ -4,20 +4,20 @@ ghost use Rattle.std.specs.Prelude.{◌≡◌};
 ghost use Rattle.wire.specs.Commands.{standard_of, extended_of, turn_of, group_command_of};
 
 // "Direct commands, standard": those that need no link, those that every module takes, and all others.
-#[derive(Drop)]
+#[derive(Clone, Copy)]
 pub enum Standard {
     Open(OpenCommand),
     Module(ModuleCommand),
     Load,
 }
 
-#[derive(Drop)]
+#[derive(Clone, Copy)]
 pub enum OpenCommand {
     Ping,
     IdRequest,
 }
 
-#[derive(Drop)]
+#[derive(Clone, Copy)]
 pub enum ModuleCommand {
     EngineVersion,
     ReadFlags,
@@ -25,7 +25,7 @@ pub enum ModuleCommand {
 }
 
 // "Direct commands, extended": those that every module takes, and all others.
-#[derive(Drop)]
+#[derive(Clone, Copy)]
 pub enum Extended {
     SetFlags,
     Properties,
@@ -34,14 +34,14 @@ pub enum Extended {
 }
 
 // A direct command: the same Command 1 asks for different things in a standard and in an extended message.
-#[derive(Drop)]
+#[derive(Clone, Copy)]
 pub enum Command {
     Standard(Standard),
     Extended(Extended),
 }
 
 // "Groups": what a broadcast or a cleanup tells its group.
-#[derive(Drop)]
+#[derive(Clone, Copy)]
 pub enum GroupCommand {
     On,
     Off,

@@ -3,7 +3,7 @@ use crate::address::Address;
 use crate::command::{Command, GroupCommand};
 use crate::request::Request;
 
-#[derive(Drop)]
+#[derive(Clone, Copy)]
 pub enum MessageKind {
     Direct(Request, Command),
     // The group is Command 2.
@@ -15,7 +15,7 @@ pub enum MessageKind {
 }
 
 // What reading a message comes to.
-#[derive(Drop)]
+#[derive(Clone, Copy)]
 pub enum Reading {
     Heard(MessageKind),
     // Result 1.
@@ -25,7 +25,7 @@ pub enum Reading {
 }
 
 // A message that was read: To, what it comes to, and Data 1 to Data 14 beside its kind, 00 where it has none.
-#[derive(Drop)]
+#[derive(Clone, Copy)]
 pub struct Message {
     // Nobody's address, 00 00 00, where the message is too short to say.
     pub to: Address,

@@ -1,7 +1,7 @@
 // Who asks, how far its message goes, and by which command bytes: all of a message that its reply repeats ("Message bytes").
 use crate::address::Address;
 
-#[derive(Drop)]
+#[derive(Clone, Copy)]
 pub struct Request {
     pub from: Address,
     // The largest hop count, bits 1 and 0 of the flags.

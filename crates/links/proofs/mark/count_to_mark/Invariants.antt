@@ -1,0 +1,19 @@
+-- The first end mark of those that are left is the first of all.
+use Prim.Native.Nat.{ℕ, pred, min, ◌≤◌, ◌-◌, ◌+◌}
+use mathlib.Core.Path.{◌≡◌, sym, ◌∙◌}
+use mathlib.Core.Bool.{true, false}
+use mathlib.Core.List.{List}
+use native.Mathlib.Nat.{sub-zero, add-zero}
+use native.Mathlib.Omega.{arith}
+use borrow.Author.Rules.{rules}
+use Rattle.basis.specs.First.{first_from}
+use Rattle.basis.proofs.First.{none, here, later}
+use Rattle.links.specs.Mark.{mark_at, up_to_mark}
+use Rattle.links.proofs.mark.count_to_mark.Given as goal
+
+-- The first end mark of those that are left is the first of all.
+abbrev pub invariant-loop-i : goal.invariant-loop-i
+invariant-loop-i l = (l.i ≤ l.n) × (first_from (mark_at l.links) (l.n - l.i) (l.k + l.i) ≡ first_from (mark_at l.links) l.n l.k)
+
+abbrev pub decreases-loop-i : goal.decreases-loop-i
+decreases-loop-i l = l.n - l.i

@@ -1,0 +1,18 @@
+use mathlib.Core.Path.{sym, ◌∙◌}
+use Rattle.basis.specs.Choice.{choose}
+use Rattle.basis.proofs.Table.{missed}
+use Rattle.outlet.specs.Load.{statuses, status_entry}
+use borrow.Author.Rules.{rules}
+use Rattle.outlet.proofs.commands.status_entry.Goals as goal
+
+pub returns-in-0 : goal.returns-in-0
+unfolding status_entry choose
+returns-in-0 c = rw (c.stays.ensures, c.full_of.ensures, c.in-0.is)
+
+pub returns-in-1 : goal.returns-in-1
+unfolding status_entry choose
+returns-in-1 c = rw (c.stays-in-1.ensures, c.both_of.ensures, c.in-1.is)
+
+pub returns-in_default : goal.returns-in_default
+unfolding status_entry choose
+returns-in_default c = c.stays-in_default.ensures ∙ sym (missed _ _ (statuses c.args.sockets) c.in_default.in_default-own.rest)

@@ -1,0 +1,18 @@
+use mathlib.Core.Path.{sym, ◌∙◌}
+use Rattle.basis.specs.Choice.{choose}
+use Rattle.basis.proofs.Table.{missed}
+use Rattle.outlet.specs.Groups.{socket_rows, socket_group}
+use borrow.Author.Rules.{rules}
+use Rattle.outlet.proofs.groups.socket_group.Goals as goal
+
+pub returns-in-1 : goal.returns-in-1
+unfolding socket_group choose
+returns-in-1 c = rw c.in-1.is
+
+pub returns-in-2 : goal.returns-in-2
+unfolding socket_group choose
+returns-in-2 c = rw c.in-2.is
+
+pub returns-in_default : goal.returns-in_default
+unfolding socket_group choose
+returns-in_default c = let g = c.args in c.unfit.ensures ∙ sym (missed _ _ (socket_rows g.sockets g.is_on) c.in_default.in_default-own.rest)

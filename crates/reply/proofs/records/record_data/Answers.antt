@@ -1,0 +1,7 @@
+use mathlib.Core.Path.{◌∙◌}
+use borrow.Author.Rules.{rules}
+use Rattle.links.proofs.Taken.{taken}
+use Rattle.reply.proofs.records.record_data.Goals as goal
+
+pub returns : goal.returns
+returns c = rw (c.record_or_blank-r.ensures ∙ taken c.args.links.now c.args.k c.requires, c.name_of-name.ensures)

@@ -1,0 +1,35 @@
+-- The first seat whose address is taken, of those that are left, is the first of all. A seat whose low byte is not marked is not taken.
+use Prim.Native.Nat.{ℕ, pred, ◌≤◌, ◌<◌, ◌-◌, ◌+◌}
+use mathlib.Core.Path.{◌≡◌, refl, sym, ◌∙◌, ap}
+use mathlib.Core.Logic.{◌≢◌}
+use mathlib.Core.Bool.{Bool, true, false}
+use mathlib.Core.List.{List}
+use native.Mathlib.Nat.{sub-zero}
+use native.Mathlib.Omega.{arith}
+use lib.Dec.{eqb}
+use lib.ListN.{length, get_or, set, length-set}
+use lib.Seq.{get_or-set_same, get_or-set_other}
+use borrow.Author.Tests.{lt-ltb, le-ltb, eqb-true, eqb-false, not-true, not-false}
+use Rattle.basis.specs.First.{first, first_from}
+use Rattle.basis.proofs.First.{none, here, later}
+use Rattle.basis.proofs.Tests.{clash}
+use Rattle.wire.specs.declared.address.Address.{Address}
+use Rattle.row.specs.Row.{is_taken}
+use Rattle.row.specs.Round.{name_in}
+use Rattle.row.proofs.Named.{not_taken}
+use Rattle.row.proofs.names.is_doubled.Given as goal
+
+-- The first seat whose address is taken, of those that are left, is the first of all. A seat whose low byte is not marked is not taken.
+-- the low byte of every seat before i is marked
+abbrev pub Marked : (ℕ → Address) → List Bool → ℕ → Type 0
+Marked name met i = (j : ℕ) → j < i → get_or met (name j).low false ≡ true
+
+abbrev pub invariant-loop-i : goal.invariant-loop-i
+invariant-loop-i l =
+    (l.i ≤ l.n)
+    × (first_from (is_taken (name_in l.names)) (l.n - l.i) l.i ≡ first (is_taken (name_in l.names)) l.n)
+    × (length l.met ≡ 256)
+    × Marked (name_in l.names) l.met l.i
+
+abbrev pub decreases-loop-i : goal.decreases-loop-i
+decreases-loop-i l = l.n - l.i

@@ -1,0 +1,14 @@
+-- The first place of no blank is sought.
+use Prim.Native.Nat.{◌-◌}
+use native.Mathlib.Omega.{arith}
+use lib.ListN.{length}
+use Rattle.roster.specs.Words.{ink_at, word_start}
+use Rattle.roster.proofs.Places.{Sought, begun, met, passed, ended}
+use Rattle.roster.proofs.words.word_start.Given as goal
+
+-- The first place of no blank is sought.
+abbrev pub invariant-loop-k : goal.invariant-loop-k
+invariant-loop-k l = Sought (ink_at l.line) (length l.line) l.at l.k
+
+abbrev pub decreases-loop-k : goal.decreases-loop-k
+decreases-loop-k l = length l.line - l.k

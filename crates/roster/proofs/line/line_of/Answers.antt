@@ -2,7 +2,6 @@
 use Prim.Native.Nat.{ℕ, suc, ◌-◌, ◌≤◌, ◌<◌}
 use mathlib.Core.Path.{◌≡◌, sym, ◌∙◌}
 use mathlib.Core.List.{List}
-use borrow.Author.Rules.{rules}
 use native.Mathlib.Omega.{arith}
 use lib.ListN.{length, take, drop}
 use lib.Seq.{length-take-le}
@@ -13,7 +12,6 @@ use Rattle.roster.specs.Line.{empty_line, line_for, line_by, line_of}
 use Rattle.roster.proofs.Parted.{bare_inside, ends_there, one_word, no_word, enough}
 use Rattle.roster.proofs.line.line_of.Goals as goal
 
--- Its words are those of what stands before the comment; the first says the kind.
 module _ (s : List ℕ) (n : ℕ) (e : n ≡ bare_length s) where
   abbrev bare : List ℕ
   bare = take n s
@@ -25,39 +23,22 @@ module _ (s : List ℕ) (n : ℕ) (e : n ≡ bare_length s) where
   unfolding line_of line_by
   wordless h = rw (← e, no_word bare 0 (length bare) (omega (arith, measured)))
 
-  worded : (i j : ℕ) → i ≡ word_start bare 0 → i < n → j ≡ word_end bare i
-      → line_of s ≡ line_for (named (small_letters (take (j - i) (drop i bare)))) (bytes_of (words_behind bare j))
-  unfolding line_of line_by
-  worded i j a h b =
-      let l = measured in
-      rw (← e, enough (length bare) (suc (length bare)) bare 0 (omega arith) (omega arith) (omega arith))
-      (rw (one_word bare 0 (length bare) (omega (arith, a)), ← a, ← b))
+  module _ (i j : ℕ) (a : i ≡ word_start bare 0) (h : i < n) (b : j ≡ word_end bare i) where
+    worded : line_of s ≡ line_for (named (small_letters (take (j - i) (drop i bare)))) (bytes_of (words_behind bare j))
+    unfolding line_of line_by
+    worded =
+        let l = measured in
+        rw (← e, enough (length bare) (suc (length bare)) bare 0 (omega arith) (omega arith) (omega arith))
+        (rw (one_word bare 0 (length bare) (omega (arith, a)), ← a, ← b))
 
--- where the first word ends
-abbrev Ended : Type 0
-Ended = tie.After-word-end
-
-abbrev line_at : Ended → List ℕ
-line_at p = p.before.before.before.before.before.before.args.line.now
-
-abbrev bare_at : Ended → List ℕ
-bare_at p = take p.before.before.before.before.bare-length.result (line_at p)
-
-abbrev start_at : Ended → ℕ
-start_at p = p.before.before.word-start.result
-
-within : (p : Ended) → (start_at p < p.word-end.result) × (p.word-end.result ≤ length (bare_at p))
-within p =
-    let n = p.before.before.before.before.bare-length in
-    let e = p.word-end.ensures in
-    let l = measured (line_at p) n.result n.ensures in
-    let h = ends_there (bare_at p) 0 (start_at p) p.before.before.word-start.ensures (omega (arith, p.before.if1.false)) in
-    (omega arith, omega arith)
+    within : (i < j) × (j ≤ length bare)
+    within =
+        let l = measured in
+        let w = ends_there bare 0 i a (omega (arith, h)) in
+        (omega arith, omega arith)
 
 pub slice_bounds-bare-end : goal.slice_bounds-bare-end
-slice_bounds-bare-end c =
-    let n = c.bare_length-n in
-    sym (measured c.before.before.before.args.line.now n.result n.ensures)
+slice_bounds-bare-end c = let n = c.bare_length-n in sym (measured c.args.line.now n.result n.ensures)
 
 pub returns-then-start-n : goal.returns-then-start-n
 returns-then-start-n c =
@@ -68,14 +49,41 @@ returns-then-start-n c =
 pub word_end-end-requires : goal.word_end-end-requires
 word_end-end-requires c =
     let n = c.bare_length-n in
-    let l = measured c.before.before.before.before.before.args.line.now n.result n.ensures in
+    let l = measured c.args.line.now n.result n.ensures in
     omega (arith, c.if-start-n.false)
 
 pub slice_bounds-named_any-count : goal.slice_bounds-named_any-count
-slice_bounds-named_any-count c = omega (arith, (within c).0)
+slice_bounds-named_any-count c =
+    let n = c.bare_length-n in
+    let w = within c.args.line.now n.result n.ensures _ _ c.word_start-start.ensures c.if-start-n.false c.word_end-end.ensures in
+    omega (arith, w.0)
 
 pub slice_bounds-named_any-start : goal.slice_bounds-named_any-start
-slice_bounds-named_any-start c = omega (arith, (within c).0)
+slice_bounds-named_any-start c =
+    let n = c.bare_length-n in
+    let w = within c.args.line.now n.result n.ensures _ _ c.word_start-start.ensures c.if-start-n.false c.word_end-end.ensures in
+    omega (arith, w.0)
 
 pub slice_bounds-named_any-end : goal.slice_bounds-named_any-end
-slice_bounds-named_any-end c = (within c).1
+slice_bounds-named_any-end c =
+    let n = c.bare_length-n in
+    let w = within c.args.line.now n.result n.ensures _ _ c.word_start-start.ensures c.if-start-n.false c.word_end-end.ensures in
+    w.1
+
+pub bytes_behind-requires : goal.bytes_behind-requires
+bytes_behind-requires c =
+    let n = c.bare_length-n in
+    let w = within c.args.line.now n.result n.ensures _ _ c.word_start-start.ensures c.if-start-n.false c.word_end-end.ensures in
+    w.1
+
+pub returns-in-Kind : goal.returns-in-Kind
+returns-in-Kind c =
+    let n = c.bare_length-n in
+    let told = worded c.args.line.now n.result n.ensures _ _ c.word_start-start.ensures c.if-start-n.false c.word_end-end.ensures in
+    rw (told, ← c.named_any.ensures, c.in-Kind.is, ← c.bytes_behind.ensures) c.line_as.ensures
+
+pub returns-in-Unknown : goal.returns-in-Unknown
+returns-in-Unknown c =
+    let n = c.bare_length-n in
+    let told = worded c.args.line.now n.result n.ensures _ _ c.word_start-start.ensures c.if-start-n.false c.word_end-end.ensures in
+    rw (told, ← c.named_any.ensures, c.in-Unknown.is) c.bad_line.ensures

@@ -1,4 +1,6 @@
 use Prim.Native.Nat.{◌-◌}
+use mathlib.Core.Bool.{not}
+use mathlib.Core.Path.{ap}
 use native.Mathlib.Omega.{arith}
 use lib.ListN.{length}
 use Rattle.roster.specs.Words.{ink_at, word_start}

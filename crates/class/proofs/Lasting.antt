@@ -21,6 +21,8 @@ pub data SameSeats : List Module → List Module → Type 0 where
 
 pub as_many : (row other : List Module) → SameSeats row other → length row ≡ length other
 as_many [] [] none = refl
+as_many [] (x ∷ other) h = elim h [ ]
+as_many (m ∷ row) [] h = elim h [ ]
 as_many (m ∷ row) (x ∷ other) (next e k rest) = ap suc (as_many row other rest)
 
 same : (row : List Module) → SameSeats row row
@@ -29,6 +31,10 @@ same (m ∷ row) = next refl refl (same row)
 
 join : (a b c : List Module) → SameSeats a b → SameSeats b c → SameSeats a c
 join [] [] [] none none = none
+join [] [] (z ∷ c) h k = elim k [ ]
+join [] (y ∷ b) c h k = elim h [ ]
+join (x ∷ a) [] c h k = elim h [ ]
+join (x ∷ a) (y ∷ b) [] h k = elim k [ ]
 join (x ∷ a) (y ∷ b) (z ∷ c) (next e k p) (next f h q) = next (e ∙ f) (k ∙ h) (join a b c p q)
 
 at_seat : (row : List Module) (i : ℕ) (m : Module) → m.identity ≡ (seat_at row i).identity → kind_of m.load ≡ kind_of (seat_at row i).load

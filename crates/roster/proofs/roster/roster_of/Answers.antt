@@ -36,7 +36,7 @@ loop-at-smaller c =
 pub loop-at-preserved : goal.loop-at-preserved
 loop-at-preserved c =
     let t = c.loop-at in
-    rw (c.line_next-at.ensures, c.with_line-r.ensures, c.line_of.ensures, c.line_end-end.ensures)
+    rw (c.line_next-at.ensures, c.with_line-r.ensures, c.line_of-line.ensures, c.line_end-end.ensures)
     (line_read c.args.text.now t.at t.number t.r (omega arith) t.invariant)
 
 pub returns : goal.returns

@@ -1,5 +1,6 @@
 //! "That two results allowed by one promise are equal is itself proved": the list of promises that are proved so,
-//! `crates/around/specs/OneAnswer.antt`, has every public function, with the promise that stands at the function.
+//! `crates/around/specs/OneAnswer.antt`, has every public function, with the promise that stands at the function. What a static
+//! library exports has the promise of a function of a library below it, word for word.
 
 use std::collections::BTreeSet;
 use std::fs;
@@ -25,9 +26,17 @@ const OPEN: [&str; 16] = [
     "text-put-seats",
 ];
 
-/// A public function: its name in the list, and the definitions that its promise cites.
+/// A crate, by its line in crates.txt.
+struct Crate {
+    name: String,
+    is_static: bool,
+    below: Vec<String>,
+}
+
+/// A public function: its name in the list, all of its signature from its name on, and the definitions that its promise cites.
 struct Function {
     row: String,
+    head: String,
     cited: BTreeSet<String>,
 }
 
@@ -57,6 +66,26 @@ fn every_public_function_is_listed_with_its_promise() {
     assert!(rows.is_empty(), "no such function: {rows:?}");
 }
 
+/// No crate can depend on a static library, so the list cannot have its functions: each is a function of the list once more.
+#[test]
+fn every_export_has_the_promise_of_a_function_below() {
+    let crates = crates_listed();
+    let exporting: Vec<_> = crates.iter().filter(|one| one.is_static).collect();
+    assert_eq!(exporting.len(), 2);
+    for one in exporting {
+        let mut below = Vec::new();
+        for name in &one.below {
+            below.extend(functions_of(name).into_iter().map(|it| it.head));
+        }
+        let exports = functions_of(&one.name);
+        assert_eq!(exports.len(), 1, "{}", one.name);
+        for export in exports {
+            let row = export.row;
+            assert!(below.contains(&export.head), "{row} promises other things");
+        }
+    }
+}
+
 /// The rows of the list: the name of each, and the words of its promise.
 fn listed() -> Vec<(String, BTreeSet<String>)> {
     let text = read(&crates().join("around/specs/OneAnswer.antt"));
@@ -72,14 +101,19 @@ fn listed() -> Vec<(String, BTreeSet<String>)> {
         .collect()
 }
 
+/// Those of all libraries.
 fn functions() -> Vec<Function> {
-    let mut found = Vec::new();
-    for name in crate_names() {
-        for file in sources(&crates().join(&name).join("src")) {
-            find_functions(&name, &read(&file), &mut found);
-        }
-    }
+    let libraries = crates_listed().into_iter().filter(|one| !one.is_static);
+    let found: Vec<_> = libraries.flat_map(|one| functions_of(&one.name)).collect();
     assert!(found.len() > 30, "only {} functions found", found.len());
+    found
+}
+
+fn functions_of(crate_name: &str) -> Vec<Function> {
+    let mut found = Vec::new();
+    for file in sources(&crates().join(crate_name).join("src")) {
+        find_functions(crate_name, &read(&file), &mut found);
+    }
     found
 }
 
@@ -94,29 +128,36 @@ fn find_functions(crate_name: &str, text: &str, found: &mut Vec<Function>) {
         for (at, _) in text.match_indices(start) {
             let rest = &text[at + start.len()..];
             let name = &rest[..rest.find('(').expect("a function has parameters")];
-            let promised = promise_of(rest);
+            let head = head_of(rest);
+            let promised = words(promise_in(head));
             found.push(Function {
                 row: format!("{crate_name}-{name}").replace('_', "-"),
-                cited: words(promised).intersection(&imported).cloned().collect(),
+                head: head.to_owned(),
+                cited: promised.intersection(&imported).cloned().collect(),
             });
         }
     }
 }
 
-/// What stands between the parameters and the body.
-fn promise_of(function: &str) -> &str {
+/// What stands before the body.
+fn head_of(function: &str) -> &str {
     let end = ["\n{\n", "\n    {\n"]
         .iter()
         .filter_map(|body| function.find(body))
         .min()
         .or_else(|| function.find(" {\n"))
         .expect("a function has a body");
-    let head = &function[..end];
+    &function[..end]
+}
+
+/// What stands between the parameters and the body.
+fn promise_in(head: &str) -> &str {
     head.find("ensures").map_or("", |at| &head[at..])
 }
 
+/// A name in snake case is one word.
 fn words(text: &str) -> BTreeSet<String> {
-    text.split(|c: char| !c.is_alphanumeric())
+    text.split(|c: char| !c.is_alphanumeric() && c != '_')
         .filter(|word| !word.is_empty())
         .map(str::to_owned)
         .collect()
@@ -126,12 +167,19 @@ fn crates() -> PathBuf {
     Path::new(env!("CARGO_MANIFEST_DIR")).join("../crates")
 }
 
-fn crate_names() -> Vec<String> {
+fn crates_listed() -> Vec<Crate> {
     let text = read(&crates().join("../crates.txt"));
     text.lines()
         .filter(|line| !line.starts_with('#'))
         .filter_map(|line| line.split_once(':'))
-        .map(|(name, _)| name.to_owned())
+        .map(|(said, below)| {
+            let (name, kind) = said.split_once(' ').unwrap_or((said, ""));
+            Crate {
+                name: name.to_owned(),
+                is_static: kind == "staticlib",
+                below: below.split_whitespace().map(str::to_owned).collect(),
+            }
+        })
         .collect()
 }
 

@@ -174,7 +174,7 @@ pub record EachOnce : Type 0 where
   pub row-class-number : (o : ClassOutcome) → Only (λ (r : ℕ). r ≡ class_number_of o)
   pub row-silent : (o : ClassOutcome) → Only (λ (r : ClassAnswer). r ≡ silent o)
   pub row-ended : (t : Progress) (answer : ClassAnswer) → Only (λ (r : Progress). r ≡ ended t answer)
-  pub row_open : (n bytes : ℕ) (heard : Message) → Only (λ (r : Progress). r ≡ opened n bytes heard)
+  pub row-open : (n bytes : ℕ) (heard : Message) → Only (λ (r : Progress). r ≡ opened n bytes heard)
   pub row-noticed : (names : List Address) (n bytes : ℕ) (heard : Message) → Only (λ (r : Progress). r ≡ noticed names n bytes heard)
   pub row-settle : (t : Progress) → Only (λ (r : Progress). r ≡ settled_if_few t)
   pub class-class-step : (row : List Module) (l s room : List ℕ)

@@ -11,8 +11,7 @@ use results::number;
 // The number of an image or a report that does not fit.
 const UNFIT: u64 = 255;
 
-#[unsafe(no_mangle)]
-pub extern "C" fn dreelish_step(
+pub fn dreelish_step(
     image: &mut [u8],
     links: &mut [u8],
     message: &[u8],

@@ -10,8 +10,7 @@ use row::outcome::{ClassOutcome, class_number};
 // The number of images or a report that do not fit.
 const UNFIT: u64 = 255;
 
-#[unsafe(no_mangle)]
-pub extern "C" fn dreelish_class_step(
+pub fn dreelish_class_step(
     images: &mut [u8],
     count: usize,
     links: &mut [u8],

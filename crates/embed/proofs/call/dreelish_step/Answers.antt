@@ -1,6 +1,6 @@
+-- Where a test fails the call refuses; behind both the image holds a module, and the step is its step.
 use mathlib.Core.Path.{◌≡◌, sym, ◌∙◌}
 use mathlib.Core.Bool.{true}
-use borrow.Author.Rules.{rules}
 use borrow.Author.Tests.{not-true, not-false, lt-leb}
 use Rattle.image.specs.Image.{is_image}
 use Rattle.image.proofs.Whole.{whether, held_there}
@@ -16,16 +16,13 @@ returns-then-not-held c =
 pub returns-then-report-lt2 : goal.returns-then-report-lt2
 returns-then-report-lt2 c =
     let g = c.args in
-    refused g.image.now g.links.now g.message.now g.room.now g.report.now
-    (rw ((sym (whether c.args.image.now _ c.held_in-held.ensures) ∙ not-false _ c.if-not-held.false), lt-leb 2 _ c.if-report-lt2.true))
+    let one : is_image g.image.now ≡ true = sym (whether g.image.now _ c.held_in-held.ensures) ∙ not-false _ c.if-not-held.false in
+    refused g.image.now g.links.now g.message.now g.room.now g.report.now (rw (one, lt-leb 2 _ c.if-report-lt2.true))
 
 pub returns : goal.returns
 returns c =
     let g = c.args in
-    let m = held_there g.image.now _ c.held_in-held.ensures (sym (whether c.args.image.now _ c.held_in-held.ensures) ∙ not-false _ c.if-not-held.false) in
-    served g.image.now g.links.now g.message.now g.room.now g.report.now (sym (whether c.args.image.now _ c.held_in-held.ensures) ∙ not-false _ c.if-not-held.false) c.step-answer.result _ _
-    (rw m at c.step-answer.ensures)
-    _ _ _ c.if-report-lt2.false
-    c.store.ensures
-    c.tell.ensures
-    c.number.ensures
+    let one : is_image g.image.now ≡ true = sym (whether g.image.now _ c.held_in-held.ensures) ∙ not-false _ c.if-not-held.false in
+    let there = held_there g.image.now _ c.held_in-held.ensures one in
+    served g.image.now g.links.now g.message.now g.room.now g.report.now one c.step-answer.result _ _ (rw there at c.step-answer.ensures)
+    _ _ _ c.if-report-lt2.false c.store.ensures c.tell.ensures c.number.ensures

@@ -1,8 +1,12 @@
 -- The turns that are left of a message, down to what the class promises.
 use Prim.Native.Nat.{ℕ, zero, suc, ◌≤◌, ◌<◌}
+use mathlib.Core.Path.{◌≡◌, refl, ap}
 use mathlib.Core.List.{List}
 use native.Mathlib.Omega.{arith}
+use lib.Dec.{ltb}
 use lib.ListN.{length, set}
+use borrow.Author.Tests.{lt-ltb, le-ltb}
+use Rattle.basis.specs.Choice.{choose}
 use Rattle.wire.specs.declared.kind.Message.{Message}
 use Rattle.module.specs.declared.state.Module.{Module}
 use Rattle.row.specs.declared.progress.Progress.{Progress}
@@ -49,3 +53,20 @@ module _ (target : ClassStep) (heard : Message) (bytes : ℕ) where
       → (let x : Turn = turn_of (seat_at xs t.seat) t heard ls rs in Goes (set xs t.seat x.next) x.progress x.links x.room) → Goes xs t ls rs
   unfolding Runs
   goes_on xs t ls rs inside ready g = record { left = suc g.left; runs = (inside, ready, g.runs) }
+
+-- as many turns as are left of at most f
+unfoldable pub turns : Message → ℕ → List Module → Progress → List ℕ → List ℕ → ℕ
+turns heard zero xs t ls rs = 0
+turns heard (suc f) xs t ls rs =
+    choose (ltb t.seat (length xs))
+    (let x : Turn = turn_of (seat_at xs t.seat) t heard ls rs in suc (turns heard f (set xs t.seat x.next) x.progress x.links x.room))
+    0
+
+pub counted : (target : ClassStep) (heard : Message) (bytes f k : ℕ) (xs : List Module) (t : Progress) (ls rs : List ℕ) → k ≤ f
+    → Runs target heard bytes k xs t ls rs → turns heard f xs t ls rs ≡ k
+unfolding Runs turns choose
+counted target heard bytes zero zero xs t ls rs h r = refl
+counted target heard bytes zero (suc k) xs t ls rs h r = absurd (omega (arith, h))
+counted target heard bytes (suc f) zero xs t ls rs h r = rw (le-ltb t.seat (length xs) r.0)
+counted target heard bytes (suc f) (suc k) xs t ls rs h r =
+    rw (lt-ltb t.seat (length xs) r.0) (ap suc (counted target heard bytes f k _ _ _ _ (omega (arith, h)) r.2))

@@ -41,14 +41,12 @@ fn word_at(rt: HostRuntime, i: usize, word: &mut [u8]) -> usize
 
 // How many there are, as far as it makes a difference.
 fn count_words(rt: HostRuntime) -> usize {
-    let mut n: usize = 0;
-    while n < 4 {
-        if is_missing(rt, n) {
-            return n;
+    for i in 0..4 {
+        if is_missing(rt, i) {
+            return i;
         }
-        n += 1;
     }
-    n
+    4
 }
 
 fn is_missing(rt: HostRuntime, i: usize) -> bool {

@@ -1,6 +1,6 @@
 // The bench: modem frames on standard input, replies in frames on standard output ("The program"); or a line for each frame, to be read.
 #![tactic(auto)]
 
-fn main() {
-    desk::sit();
+fn main(rt: HostRuntime) {
+    desk::sit(rt);
 }

@@ -13,6 +13,8 @@
 // The names are flags, led, house, unit and delta; level, ramp and on-level of a dimmer; top and bottom, 01 on or 00 off, of an outlet.
 #![tactic(auto)]
 
+ghost use Rattle.io.specs.Counts.{IsPrefixLen};
+
 mod board;
 mod compare;
 mod text;
@@ -20,37 +22,51 @@ mod values;
 
 use board::{Board, blank, fresh_dimmer, fresh_outlet, hear};
 use compare::told;
+use std::io::Read;
 use text::line_end;
 use values::{expected, given};
 
-fn main() {
+fn main(rt: HostRuntime) {
     let mut text = [0; 131072];
-    let n = io::read_full(libc::STDIN_FILENO, &mut text);
-    run(&text[..n]);
+    let n = read_full(rt, &mut text);
+    run(rt, &text[..n]);
 }
 
-fn run(text: &[u8]) {
+// Standard input, as far as there is room, and as far as it can be read.
+fn read_full(rt: HostRuntime, text: &mut [u8]) -> usize
+    ensures { IsPrefixLen result text.new }
+{
+    let mut n: usize = 0;
+    while n < text.len() {
+        match rt.stdin().read(&mut text[n..]) {
+            Ok(0) => break,
+            Ok(more) => n += more,
+            Err(_) => break,
+        }
+    }
+    n
+}
+
+fn run(rt: HostRuntime, text: &[u8]) {
     let mut board = blank();
     let mut at: usize = 0;
     while at < text.len() {
         let end = line_end(text, at);
-        board = take(board, &text[at..end]);
+        board = take(rt, board, &text[at..end]);
         at = end;
     }
-    finish(board);
+    finish(rt, board);
 }
 
-fn finish(board: Board) {
-    io::print_decimal(libc::STDOUT_FILENO, board.cases);
-    io::write_all(libc::STDOUT_FILENO, b" cases, ");
-    io::print_decimal(libc::STDOUT_FILENO, board.compared);
-    io::write_all(libc::STDOUT_FILENO, b" compared, ");
-    io::print_decimal(libc::STDOUT_FILENO, board.differ);
-    io::write_all(libc::STDOUT_FILENO, b" differ\n");
+fn finish(rt: HostRuntime, board: Board) {
+    let cases = board.cases;
+    let compared = board.compared;
+    let differ = board.differ;
+    let _ = println!(rt; "{cases} cases, {compared} compared, {differ} differ");
 }
 
 // The first letter of a line decides.
-fn take(board: Board, line: &[u8]) -> Board {
+fn take(rt: HostRuntime, board: Board, line: &[u8]) -> Board {
     if line.len() == 0 {
         return board;
     }
@@ -58,14 +74,14 @@ fn take(board: Board, line: &[u8]) -> Board {
         b'#' | b'\n' => board,
         b'i' => board.identified(line, fresh_dimmer()),
         b'o' => board.identified(line, fresh_outlet()),
-        b'w' => given(board, line),
+        b'w' => given(rt, board, line),
         b'l' => board.with_links(line),
         b'f' => board.filled(line),
         b'k' => board.kept(),
         b'c' => board.started(line),
         b'r' => board.with_room(line),
         b'h' => hear(board, line),
-        b't' => expected(board, line),
-        _ => told(board, line),
+        b't' => expected(rt, board, line),
+        _ => told(rt, board, line),
     }
 }

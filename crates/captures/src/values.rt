@@ -3,7 +3,6 @@ use crate::board::{Board, Image};
 use crate::compare::{differed, matched, show_digits, unread};
 use crate::text::{byte_of, is_equal, next_word};
 use image::places;
-use libc::STDOUT_FILENO;
 
 // The names of an image's bytes, and their places in the same order; those of kind and identity too, so that a change there
 // would be shown.
@@ -51,13 +50,13 @@ const OUTLET_PLACES: [usize; 15] = [
 ];
 
 // Before a message: the values that a line names, and the others as they are.
-pub(crate) fn given(board: Board, line: &[u8]) -> Board {
+pub(crate) fn given(rt: HostRuntime, board: Board, line: &[u8]) -> Board {
     let mut next = board;
     let mut now = board.now;
     let module = now.module;
     let made = with_named(module, line);
     if !made.is_read {
-        return unread(board, line);
+        return unread(rt, board, line);
     }
     let image = made.image;
     now.module = image;
@@ -66,22 +65,22 @@ pub(crate) fn given(board: Board, line: &[u8]) -> Board {
 }
 
 // Behind a message: the values that a line names, and the others as they were before it.
-pub(crate) fn expected(board: Board, line: &[u8]) -> Board {
+pub(crate) fn expected(rt: HostRuntime, board: Board, line: &[u8]) -> Board {
     let now = board.now;
     let came = now.module;
     let before = board.before;
     let made = with_named(before, line);
     if !made.is_read {
-        return unread(board, line);
+        return unread(rt, board, line);
     }
     let wanted = made.image;
     if is_equal(&came, &wanted) {
         return matched(board);
     }
-    let next = differed(board, line);
-    io::write_all(STDOUT_FILENO, b" | came");
-    show_changes(&before, &came);
-    io::write_all(STDOUT_FILENO, b"\n");
+    let next = differed(rt, board, line);
+    let _ = print!(rt; " | came");
+    show_changes(rt, &before, &came);
+    let _ = println!(rt; "");
     next
 }
 
@@ -170,33 +169,33 @@ fn place_at(spots: &[usize], n: usize) -> usize {
 }
 
 // What is not as it was, in the form of a `then` line.
-fn show_changes(before: &Image, came: &Image) {
+fn show_changes(rt: HostRuntime, before: &Image, came: &Image) {
     match came[places::KIND] {
         places::OUTLET => {
             let names = OUTLET_NAMES;
             let spots = OUTLET_PLACES;
-            show_named(&names, &spots, before, came)
+            show_named(rt, &names, &spots, before, came)
         }
         _ => {
             let names = DIMMER_NAMES;
             let spots = DIMMER_PLACES;
-            show_named(&names, &spots, before, came)
+            show_named(rt, &names, &spots, before, came)
         }
     }
 }
 
-fn show_named(names: &[u8], spots: &[usize], before: &Image, came: &Image) {
+fn show_named(rt: HostRuntime, names: &[u8], spots: &[usize], before: &Image, came: &Image) {
     let mut n: usize = 0;
     let mut at: usize = 0;
     while at < names.len() {
         let end = next_word(names, at + 1);
-        show_change(&names[at..end], before, came, place_at(spots, n));
+        show_change(rt, &names[at..end], before, came, place_at(spots, n));
         at = end;
         n += 1;
     }
 }
 
-fn show_change(name: &[u8], before: &Image, came: &Image, place: usize) {
+fn show_change(rt: HostRuntime, name: &[u8], before: &Image, came: &Image, place: usize) {
     if place >= came.len() {
         return;
     }
@@ -204,7 +203,7 @@ fn show_change(name: &[u8], before: &Image, came: &Image, place: usize) {
     if byte == before[place] {
         return;
     }
-    io::write_all(STDOUT_FILENO, b" ");
-    io::write_all(STDOUT_FILENO, name);
-    show_digits(byte);
+    let _ = print!(rt; " ");
+    let _ = rt.write_all(name);
+    show_digits(rt, byte);
 }

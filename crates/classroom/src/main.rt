@@ -2,6 +2,6 @@
 // (document 02, "One bench for a class").
 #![tactic(auto)]
 
-fn main() {
-    desk::teach();
+fn main(rt: HostRuntime) {
+    desk::teach(rt);
 }

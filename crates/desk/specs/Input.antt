@@ -5,4 +5,4 @@ use Rattle.desk.specs.declared.input.Got.{Got}
 abbrev pub Grown : ℕ → ℕ → Got → Type 0
 Grown n most (Got.More k) = (n < k) × (k ≤ most)
 Grown n most Got.End = Unit {0}
-Grown n most Got.Failed = Unit {0}
+Grown n most (Got.Failed e) = Unit {0}

@@ -6,7 +6,7 @@ ghost use Rattle.desk.specs.Tally.{place_of, counted_at};
 ghost use Rattle.desk.specs.Desk.{fresh_desk, closed_of, AnswerPromise, Handed};
 
 use crate::Show;
-use libc::STDOUT_FILENO;
+use crate::said::say_failed;
 use lines::counts::put_counts;
 use lines::told::put_told;
 use modem::serve::{CRAMPED, serve};
@@ -44,6 +44,7 @@ pub(crate) fn closed(desk: Desk) -> Desk
 
 // Closed afterwards where the reply might not fit, or could not be told.
 pub(crate) fn answer(
+    rt: HostRuntime,
     show: Show,
     desk: Desk,
     links: &mut [u8],
@@ -60,7 +61,7 @@ pub(crate) fn answer(
     if h.number == CRAMPED {
         return closed(desk);
     }
-    let is_told = tell(show, frame, h, room, out, served.sent);
+    let is_told = tell(rt, show, frame, h, room, out, served.sent);
     answered(desk, h, is_told)
 }
 
@@ -114,45 +115,55 @@ fn counted_for(tally: Tally, place: usize) -> Tally
     tally
 }
 
-fn tell(show: Show, frame: &[u8], h: Heeded, room: &[u8], out: &mut [u8], sent: usize) -> bool
+fn tell(
+    rt: HostRuntime,
+    show: Show,
+    frame: &[u8],
+    h: Heeded,
+    room: &[u8],
+    out: &mut [u8],
+    sent: usize,
+) -> bool
     requires prefix_len { IsPrefixLen sent out.old }
     requires prefix_len_2 { IsPrefixLen h.length room.now }
     requires handed { Handed frame.now h sent room.now out.old }
 {
     let n = h.length;
     match show {
-        Show::Frames => send(&out[..sent], &room[..n]),
+        Show::Frames => send(rt, &out[..sent], &room[..n]),
         Show::Lines => {
             let end = put_told(out, frame, h, &room[..n]);
-            write_out(&out[..end])
+            write_out(rt, &out[..end])
         }
     }
 }
 
 // The frames of a reply, and nothing else. The reply stands beside them so that it can be said which.
-fn send(frames: &[u8], reply: &[u8]) -> bool
+fn send(rt: HostRuntime, frames: &[u8], reply: &[u8]) -> bool
     requires { frames.now ≡ framed reply.now }
 {
-    write_out(frames)
+    write_out(rt, frames)
 }
 
-pub(crate) fn finish(show: Show, desk: Desk, out: &mut [u8]) {
+pub(crate) fn finish(rt: HostRuntime, show: Show, desk: Desk, out: &mut [u8]) {
     let seating = desk.seating;
     let tally = desk.tally;
     match show {
         Show::Frames => {}
         Show::Lines => {
             let end = put_counts(out, seating, tally);
-            write_out(&out[..end]);
+            write_out(rt, &out[..end]);
         }
     }
 }
 
 // Whether all of it was written; where not, that is said on standard error.
-fn write_out(bytes: &[u8]) -> bool {
-    let is_written = io::write_all(STDOUT_FILENO, bytes);
-    if !is_written {
-        os::fail(b"standard output");
+fn write_out(rt: HostRuntime, bytes: &[u8]) -> bool {
+    match rt.stdout().write_all(bytes) {
+        Ok(()) => true,
+        Err(error) => {
+            say_failed(rt, "standard output", error);
+            false
+        }
     }
-    is_written
 }

@@ -3,29 +3,28 @@ ghost use Rattle.std.specs.Prelude.{◌≡◌, ◌<◌, length, take};
 ghost use Rattle.io.specs.Counts.{IsPrefixLen};
 ghost use Rattle.desk.specs.Input.{Grown};
 
-// How many bytes are there after a read.
+use crate::said::say_failed;
+use std::fs::File;
+use std::io::{Error, ErrorKind, Read};
+
+// How many bytes are there after a read, or why it failed.
 #[derive(Clone, Copy)]
 pub(crate) enum Got {
     More(usize),
     End,
-    Failed,
+    Failed(Error),
 }
 
-pub(crate) fn read_behind(fd: i32, bytes: &mut [u8], n: usize) -> Got
+pub(crate) fn read_behind<R: Read>(from: &mut R, bytes: &mut [u8], n: usize) -> Got
     requires { n < length bytes.old }
     ensures grown { Grown n (length bytes.old) result }
     ensures bytes_unchanged { take n bytes.new ≡ take n bytes.old }
 {
-    let free = &mut bytes[n..];
-    let got = libc::read(fd, free);
-    if got < 0 {
-        return Got::Failed;
+    match from.read(&mut bytes[n..]) {
+        Ok(0) => Got::End,
+        Ok(more) => Got::More(n + more),
+        Err(error) => Got::Failed(error),
     }
-    let more = io::count(got, free);
-    if more == 0 {
-        return Got::End;
-    }
-    Got::More(n + more)
 }
 
 #[derive(Clone, Copy)]
@@ -35,34 +34,30 @@ pub(crate) struct Loaded {
 }
 
 // A file, as far as there is room; where it is missing and not needed, nothing ("The program"). What goes wrong is said.
-pub(crate) fn load(name: &[u8], is_needed: bool, bytes: &mut [u8]) -> Loaded
+pub(crate) fn load(rt: HostRuntime, name: &str, is_needed: bool, bytes: &mut [u8]) -> Loaded
     ensures { IsPrefixLen result.size bytes.new }
 {
-    let fd = os::open_read(name);
-    if fd < 0 {
-        let is_fine = (os::errno() == libc::ENOENT) & !is_needed;
-        if !is_fine {
-            os::fail(name);
+    match File::open(&rt, name) {
+        Ok(mut file) => fill(rt, name, &mut file, bytes),
+        Err(error) => {
+            let is_fine = (error.kind() == ErrorKind::NotFound) & !is_needed;
+            if !is_fine {
+                say_failed(rt, name, error);
+            }
+            Loaded {
+                size: 0,
+                is_fine: is_fine,
+            }
         }
-        return Loaded {
-            size: 0,
-            is_fine: is_fine,
-        };
     }
-    let loaded = fill(fd, bytes);
-    if !loaded.is_fine {
-        os::fail(name);
-    }
-    libc::close(fd);
-    loaded
 }
 
-fn fill(fd: i32, memory: &mut [u8]) -> Loaded
+fn fill(rt: HostRuntime, name: &str, file: &mut File, memory: &mut [u8]) -> Loaded
     ensures { IsPrefixLen result.size memory.new }
 {
     let mut n: usize = 0;
     while n < memory.len() {
-        match read_behind(fd, memory, n) {
+        match read_behind(file, memory, n) {
             Got::More(k) => {
                 n = k;
             }
@@ -72,7 +67,8 @@ fn fill(fd: i32, memory: &mut [u8]) -> Loaded
                     is_fine: true,
                 };
             }
-            Got::Failed => {
+            Got::Failed(error) => {
+                say_failed(rt, name, error);
                 return Loaded {
                     size: n,
                     is_fine: false,

@@ -3,12 +3,12 @@
 
 mod answer;
 mod input;
+mod said;
 mod serve;
 mod word;
 
 use answer::fresh;
 use input::load;
-use libc::STDERR_FILENO;
 use roster::roster::roster_of;
 use roster::seat::bench_of;
 use seating::heed::Seating;
@@ -27,48 +27,48 @@ pub enum Show {
 
 // The module that the command line names serves what arrives until it ends. Where the words are none of ours, that is said on standard
 // error, and nothing is read.
-pub fn sit() {
-    match asked() {
-        Wish::Bench(kind, show) => serve_all(show, alone(bench_of(kind))),
-        Wish::Unknown => list_words(),
+pub fn sit(rt: HostRuntime) {
+    match asked(rt) {
+        Wish::Bench(kind, show) => serve_all(rt, show, alone(bench_of(kind))),
+        Wish::Unknown => list_words(rt),
     }
 }
 
 // The class that the file `row` names serves what arrives until it ends; where a line of it is bad, that is said on standard error,
 // and nothing is served.
-pub fn teach() {
-    match asked_of_class() {
-        ClassWish::Shown(show) => teach_as(show),
-        ClassWish::Unknown => list_class_words(),
+pub fn teach(rt: HostRuntime) {
+    match asked_of_class(rt) {
+        ClassWish::Shown(show) => teach_as(rt, show),
+        ClassWish::Unknown => list_class_words(rt),
     }
 }
 
-fn teach_as(show: Show) {
+fn teach_as(rt: HostRuntime, show: Show) {
     // one byte more than is taken, so that a longer file is seen to be too long
     let mut text = [0; 4097];
-    let loaded = load(b"row", true, &mut text);
+    let loaded = load(rt, "row", true, &mut text);
     if !loaded.is_fine {
         return;
     }
     let n = loaded.size;
     if 4096 < n {
-        say_too_long();
+        say_too_long(rt);
         return;
     }
     let roster = roster_of(&text[..n]);
     if roster.bad != 0 {
-        say_bad_line(roster.bad);
+        say_bad_line(rt, roster.bad);
         return;
     }
     let row = roster.row;
-    serve_all(show, class_with(row, roster.count));
+    serve_all(rt, show, class_with(row, roster.count));
 }
 
 // What goes wrong with a file is said on standard error, and ends it too.
-fn serve_all(show: Show, seating: Seating) {
+fn serve_all(rt: HostRuntime, show: Show, seating: Seating) {
     // one byte more than sixteen shares have, so that a longer file is seen to be unfit
     let mut memory = [0; 32769];
-    let loaded = load(b"links.bin", false, &mut memory);
+    let loaded = load(rt, "links.bin", false, &mut memory);
     if !loaded.is_fine {
         return;
     }
@@ -79,6 +79,7 @@ fn serve_all(show: Show, seating: Seating) {
     // the frames of the longest reply, or its line
     let mut out = [0; 18432];
     serve_until_end(
+        rt,
         show,
         fresh(seating),
         &mut memory[..n],
@@ -88,17 +89,12 @@ fn serve_all(show: Show, seating: Seating) {
     );
 }
 
-fn say_too_long() {
-    io::write_all(STDERR_FILENO, b"row: more than 4,096 bytes\n");
+fn say_too_long(rt: HostRuntime) {
+    let _ = eprintln!(rt; "row: more than 4,096 bytes");
 }
 
-fn say_bad_line(number: usize) {
-    let mut digits = [0; 20];
-    let n = io::decimal(number as u64, &mut digits);
-    io::write_all(STDERR_FILENO, b"row, line ");
-    io::write_all(STDERR_FILENO, &digits[..n]);
-    io::write_all(
-        STDERR_FILENO,
-        b": expected a kind (dimmer, outlet) and three or seven bytes, as in dimmer 00 10 3A\n",
+fn say_bad_line(rt: HostRuntime, number: usize) {
+    let _ = eprintln!(rt;
+        "row, line {number}: expected a kind (dimmer, outlet) and three or seven bytes, as in dimmer 00 10 3A"
     );
 }

@@ -7,7 +7,7 @@ ghost use Rattle.desk.specs.Passed.{ArrivedPromise, HeldPromise, ReadPromise, En
 use crate::Show;
 use crate::answer::{Desk, answer, closed, finish};
 use crate::input::{Got, read_behind};
-use libc::STDIN_FILENO;
+use crate::said::say_failed;
 use modem::arrived::{Seen, keep, seek};
 
 // How far a desk has come, in bytes.
@@ -18,6 +18,7 @@ struct Progress {
 }
 
 pub(crate) fn serve_until_end(
+    rt: HostRuntime,
     show: Show,
     desk: Desk,
     links: &mut [u8],
@@ -36,13 +37,14 @@ pub(crate) fn serve_until_end(
     // A proved loop has to end, and input need not: it counts down from a number that no run uses up.
     let mut turns = u64::MAX;
     while turns > 0 && p.desk.is_open {
-        p = serve_one_read(show, p, links, held, room, out);
+        p = serve_one_read(rt, show, p, links, held, room, out);
         turns -= 1;
     }
 }
 
 // One read, and all that follows from it; how many bytes are held then. At the end they are dropped: nobody serves them.
 fn serve_one_read(
+    rt: HostRuntime,
     show: Show,
     before: Progress,
     links: &mut [u8],
@@ -56,14 +58,14 @@ fn serve_one_read(
         result links.new held.new }
 {
     let desk = before.desk;
-    match read_behind(STDIN_FILENO, held, before.count) {
-        Got::More(k) => serve_held(show, desk, links, &mut held[..k], room, out),
+    match read_behind(&mut rt.stdin(), held, before.count) {
+        Got::More(k) => serve_held(rt, show, desk, links, &mut held[..k], room, out),
         Got::End => {
-            finish(show, desk, out);
+            finish(rt, show, desk, out);
             stopped(before)
         }
-        Got::Failed => {
-            os::fail(b"standard input");
+        Got::Failed(error) => {
+            say_failed(rt, "standard input", error);
             stopped(before)
         }
     }
@@ -82,6 +84,7 @@ fn stopped(before: Progress) -> Progress
 
 // Every whole frame of what is held is served, and the rest is moved to the start; how many bytes that is.
 fn serve_held(
+    rt: HostRuntime,
     show: Show,
     desk: Desk,
     links: &mut [u8],
@@ -93,7 +96,7 @@ fn serve_held(
     ensures { HeldPromise desk links.old room.old held.old
         result links.new held.new }
 {
-    let p = serve_arrived(show, desk, links, held, room, out);
+    let p = serve_arrived(rt, show, desk, links, held, room, out);
     let used = p.count;
     keep(held, used);
     let next = p.desk;
@@ -105,6 +108,7 @@ fn serve_held(
 
 // Every whole frame of what has arrived; how many bytes are done with.
 fn serve_arrived(
+    rt: HostRuntime,
     show: Show,
     desk: Desk,
     links: &mut [u8],
@@ -127,7 +131,7 @@ fn serve_arrived(
             }
             Seen::Whole(k, n) => {
                 let end = k + n;
-                desk = answer(show, desk, links, &arrived[k..end], room, out);
+                desk = answer(rt, show, desk, links, &arrived[k..end], room, out);
                 used = end;
             }
         }

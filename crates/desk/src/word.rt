@@ -1,10 +1,11 @@
 // What the words of the command line ask for.
 ghost use Rattle.std.specs.Prelude.{◌≡◌};
+ghost use Rattle.io.specs.Counts.{IsPrefixLen};
 ghost use Rattle.desk.specs.Word.{by_kind, one_word, two_words, wished, class_wished};
 
 use crate::Show;
-use libc::STDERR_FILENO;
 use roster::word::{Kind, Meaning, is_same, named};
+use std::env::{Env, FillError};
 
 // At a desk: which kind of module sits there, and what is written for each frame.
 #[derive(Clone, Copy)]
@@ -20,13 +21,39 @@ pub(crate) enum ClassWish {
     Unknown,
 }
 
-// An argument that does not fit comes as an empty one, which is no word of ours either.
-pub(crate) fn asked() -> Wish {
+pub(crate) fn asked(rt: HostRuntime) -> Wish {
     let mut first = [0; 8];
     let mut second = [0; 8];
-    let n = os::arg(1, &mut first);
-    let k = os::arg(2, &mut second);
-    wished(os::arg_count(), &first[..n], &second[..k])
+    let n = word_at(rt, 1, &mut first);
+    let k = word_at(rt, 2, &mut second);
+    wished(count_words(rt), &first[..n], &second[..k])
+}
+
+// How long it is. One that does not fit comes as an empty one, which is no word of ours either, and so does a missing one.
+fn word_at(rt: HostRuntime, i: usize, word: &mut [u8]) -> usize
+    ensures { IsPrefixLen result word.new }
+{
+    match rt.arg(i, word) {
+        Ok(n) => n,
+        Err(_) => 0,
+    }
+}
+
+// How many there are, as far as it makes a difference.
+fn count_words(rt: HostRuntime) -> usize {
+    for i in 0..4 {
+        if is_missing(rt, i) {
+            return i;
+        }
+    }
+    4
+}
+
+fn is_missing(rt: HostRuntime, i: usize) -> bool {
+    match rt.arg(i, &mut []) {
+        Err(FillError::NotPresent) => true,
+        _ => false,
+    }
 }
 
 // The program's own name is counted too. With no word it is the paper's program.
@@ -69,17 +96,14 @@ fn by_kind(meaning: Meaning, show: Show) -> Wish
     }
 }
 
-pub(crate) fn list_words() {
-    io::write_all(
-        STDERR_FILENO,
-        b"a kind or none (dimmer, outlet), and then lines or nothing\n",
-    );
+pub(crate) fn list_words(rt: HostRuntime) {
+    let _ = eprintln!(rt; "a kind or none (dimmer, outlet), and then lines or nothing");
 }
 
-pub(crate) fn asked_of_class() -> ClassWish {
+pub(crate) fn asked_of_class(rt: HostRuntime) -> ClassWish {
     let mut word = [0; 8];
-    let n = os::arg(1, &mut word);
-    class_wished(os::arg_count(), &word[..n])
+    let n = word_at(rt, 1, &mut word);
+    class_wished(count_words(rt), &word[..n])
 }
 
 fn class_wished(count: usize, word: &[u8]) -> ClassWish
@@ -94,6 +118,6 @@ fn class_wished(count: usize, word: &[u8]) -> ClassWish
     ClassWish::Unknown
 }
 
-pub(crate) fn list_class_words() {
-    io::write_all(STDERR_FILENO, b"one word or none: lines\n");
+pub(crate) fn list_class_words(rt: HostRuntime) {
+    let _ = eprintln!(rt; "one word or none: lines");
 }

@@ -62,7 +62,7 @@ fn is_for(whom: Whom, i: usize) -> bool
 }
 
 fn shown(h: Heeded) -> Shown
-    ensures* { λ r. ⌜ r ≡ record { result = h.number; read = h.read; load = shown_for h.next h.whom } ⌝ }
+    ensures { result ≡ record { result = h.number; read = h.read; load = shown_for h.next h.whom } }
 {
     let next = h.next;
     let whom = h.whom;

@@ -36,7 +36,7 @@ share_fit c sits i h =
     subst (λ (k : ℕ). is_share_fit k ≡ true) (sym (share_length (width c) i c.links (share_there (length c.row) (length c.links) i h)))
     (fit (length c.row) (length c.links) sits.fit).share
 
--- what is well_formed_lem for a seat is for it
+-- what is well-formed for a seat is for it
 is_for_lem : (a : Address) (s : List ℕ) → well_formed s a ≡ true → is_direct s ≡ true → is_for a s ≡ true
 is_for_lem a s h d =
     let p = both (is_whole s && not (is_foreign s a)) (not (is_sum_wrong s)) h in

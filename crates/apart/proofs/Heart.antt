@@ -2,7 +2,7 @@
 use Prim.Native.Nat.{ℕ, ◌<◌}
 use mathlib.Core.Path.{◌≡◌, refl, sym, ◌∙◌, ap, subst}
 use mathlib.Core.Bool.{Bool, true, false}
-use mathlib.Core.List.{[], ◌∷◌}
+use mathlib.Core.List.{List, [], ◌∷◌}
 use native.Mathlib.Omega.{arith}
 use lib.ListN.{length}
 use Rattle.wire.specs.Kinds.{is_broadcast}
@@ -16,7 +16,7 @@ use Rattle.row.proofs.Fit.{share_there}
 use Rattle.row.proofs.Named.{doubled_agrees}
 use Rattle.apart.specs.Lesson.{Class, Seated, tell, leaves, after_all, width, alone, is_for}
 use Rattle.apart.specs.Alone.{Answers, Stays}
-use Rattle.apart.specs.Heart.{contributes, Gives, answer, part, none, ours, others, Parted, AlwaysParted, RunsAlone, SameRow, QuietPupil, RowAlwaysStays}
+use Rattle.apart.specs.Heart.{contributes, Gives, answer, part, none, ours, others, Parted, AlwaysParted, Meant, RunsAlone, SameRow, QuietPupil, RowAlwaysStays}
 use Rattle.apart.proofs.Alone.{taken_alone, row_stays, left_alone, answered_alone}
 use Rattle.apart.proofs.Round.{heeded}
 
@@ -70,17 +70,22 @@ always_parted c sits i h (x ∷ xs) =
     go true q p = record { kept = x ∷ p.kept; steps = call_of (alone c i) x ∷ p.steps; meant = ours q (given c x i h sits q (is_broadcast x.message) refl) p.meant }
     go false q p = record { kept = p.kept; steps = p.steps; meant = others q p.meant }
 
-pub runs_alone : RunsAlone
+-- the seat first, since the run goes on with another class
+run_alone : (i : ℕ) (c : Class) → Seated c → i < length c.row → (xs kept : List Call) (steps : List Step) → Meant i c xs kept steps
+    → (run_of (alone c i) kept ≡ steps) × (end_of (alone c i) kept ≡ alone (after_all c xs) i)
 unfolding run_of end_of after_all
-runs_alone c sits i h xs kept steps none = (refl, refl)
-runs_alone c sits i h xs kept steps (ours {x = x} {xs = rest} {kept = theirs} {y = y} {steps = more} q g m) =
-    let later = runs_alone (leaves (tell c x)) (row_stays c sits x).seated i (inside_still c sits x i h) rest theirs more m in
+run_alone i c sits h xs kept steps none = (refl, refl)
+run_alone i c sits h xs kept steps (ours {x = x} {xs = rest} {kept = theirs} {y = y} {steps = more} q g m) =
+    let later = run_alone i (leaves (tell c x)) (row_stays c sits x).seated (inside_still c sits x i h) rest theirs more m in
     let state : left_by (call_of (alone c i) x) ≡ alone (leaves (tell c x)) i = sym (taken_alone c sits x i h) in
     ((λ e. gives_alone c x i h sits y q g e ∷ (ap (λ (s : State). run_of s theirs) state ∙ later.0) e), ap (λ (s : State). end_of s theirs) state ∙ later.1)
-runs_alone c sits i h xs kept steps (others {x = x} {xs = rest} q m) =
-    let later = runs_alone (leaves (tell c x)) (row_stays c sits x).seated i (inside_still c sits x i h) rest kept steps m in
+run_alone i c sits h xs kept steps (others {x = x} {xs = rest} q m) =
+    let later = run_alone i (leaves (tell c x)) (row_stays c sits x).seated (inside_still c sits x i h) rest kept steps m in
     let state : alone c i ≡ alone (leaves (tell c x)) i = sym (left_alone c x i q) ∙ sym (taken_alone c sits x i h) in
     (ap (λ (s : State). run_of s kept) state ∙ later.0, ap (λ (s : State). end_of s kept) state ∙ later.1)
+
+pub runs_alone : RunsAlone
+runs_alone c sits i = run_alone i c sits
 
 -- a row of the same addresses can be served as the other can
 seated_too : (c d : Class) → Seated c → SameRow c d → Seated d

@@ -17,7 +17,7 @@ use Rattle.promises.specs.LegalAny.{Legal}
 use Rattle.apart.specs.Lesson.{Class, Seated, tell, leaves, after_all, alone, is_for}
 use Rattle.apart.specs.Heart.{Meant}
 
--- a well_formed_lem direct command to seat i draws NAK FF exactly when it is neither ping nor ID request and its sender a stranger of the seat's share
+-- a well-formed direct command to seat i draws NAK FF exactly when it is neither ping nor ID request and its sender a stranger of the seat's share
 abbrev pub SeatNakExactly : Type 0
 SeatNakExactly =
     (c : Class) → Seated c → (x : Call) (i : ℕ) → i < length c.row →

@@ -65,7 +65,7 @@ module _ (m : Module) (l s : List ℕ) where
       let short : ltb (length room) (length (due_to m l s)) ≡ true = rw b.reply (lt-ltb (length room) (length e.reply) less) in
       record { result = rw short; next = rw short; links = rw short; reply = rw short; room_after = rw short }
 
--- a well_formed_lem message of any kind takes what its plan brings about
+-- a well-formed message of any kind takes what its plan brings about
 pub brought : (m : Module) (l s room : List ℕ) (e : Effect) (p : Plan)
     → well_formed s m.identity.address ≡ true → length e.reply ≤ length room
     → (ruling_of m l s).plan ≡ p → Brings m l s e p → Taken room e (step_of m l s room)

@@ -94,7 +94,7 @@ module _ (m : Module) (l s : List ℕ) where
   row_brings next _ _ (shows x) = record { done = refl; next = refl; links = refl; reply = refl }
   row_brings next _ _ (shown p) = record { done = refl; next = refl; links = refl; reply = refl }
 
-  -- a well_formed_lem command that is looked at, whether its sender is linked or it needs no link
+  -- a well-formed command that is looked at, whether its sender is linked or it needs no link
   module _ (w : well_formed s m.identity.address ≡ true) where
     pub fulfils : (e : Effect) → Legal m l s e → Brings m l s e (deed_plan m (request_of s) (deed_in m l s))
     fulfils e (shared x) =

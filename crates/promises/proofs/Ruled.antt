@@ -1,4 +1,4 @@
--- What a well_formed_lem message comes to, before the sender's link is known.
+-- What a well-formed message comes to, before the sender's link is known.
 use Prim.Native.Nat.{ℕ}
 use mathlib.Core.Path.{◌≡◌, refl, ◌∙◌}
 use mathlib.Core.Bool.{true}

@@ -20,7 +20,7 @@ Stranger l s = Linked l (from_of s) → ⊥
 abbrev pub ping_or_id : List ℕ → Bool
 ping_or_id s = not (is_extended s) && (eqb (command1_of s) 0x0f || eqb (command1_of s) 0x10)
 
--- of a well_formed_lem direct command to us, where there is room for what is due
+-- of a well-formed direct command to us, where there is room for what is due
 abbrev pub NakExactly : Type 0
 NakExactly =
     (m : Module) (l s room : List ℕ) → is_fit l ≡ true → well_formed s m.identity.address ≡ true → is_direct s ≡ true →

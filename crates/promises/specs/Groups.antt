@@ -50,7 +50,7 @@ pub data Unconcerned (m : Module) (l s : List ℕ) : Type 0 where
   -- the first responder record fits no row, even where a later one would
   unfit-record : (k : ℕ) → FirstResponder l (from_of s) (to_of s).low k → NoRow m s (link_of (record_at l k)) → Unconcerned m l s
 
--- of well_formed_lem messages, to a module with fit link memory
+-- of well-formed messages, to a module with fit link memory
 module _ (m : Module) (l s room : List ℕ) where
   -- a broadcast whose group has a first responder record
   abbrev pub BroadcastTaken : Type 0

@@ -100,7 +100,7 @@ module _ (m : Module) (l s : List ℕ) where
     set-database : Asks s 0x2f 0x02 → (k : ℕ) → Names s l k → 1 ≤ data_at s 5 → data_at s 5 ≤ 8
         → Shared (record { next = next_delta m; links = written l k (take (data_at s 5) (drop 14 s)); reply = repeated m s })
 
--- a well_formed_lem direct message of a linked sender, to a module with fit link memory
+-- a well-formed direct message of a linked sender, to a module with fit link memory
 pub record FromLinked (m : Module) (l s : List ℕ) : Type 0 where
   pub is_fit_lem : is_fit l ≡ true
   pub well_formed_lem : well_formed s m.identity.address ≡ true

@@ -64,7 +64,7 @@ pub data When0 (m : Module) (l s : List ℕ) : Effect → Type 0 where
       → FirstResponder l (from_of s) (to_of s).low k → GroupLegal m s (link_of (record_at l k)) next → When0 m l s (broadcast_effect l next)
 
 module _ (m : Module) (l s : List ℕ) where
-  -- none of 2, 1, 3 and 4: link memory is fit and the message well_formed_lem
+  -- none of 2, 1, 3 and 4: link memory is fit and the message well-formed
   pub record Sound : Type 0 where
     pub fit : ¬ When2 l
     pub whole : ¬ When1 s

@@ -1,4 +1,4 @@
--- What a message is heard as: it says whom it is for, and a well_formed_lem one has a kind.
+-- What a message is heard as: it says whom it is for, and a well-formed one has a kind.
 use Prim.Native.Nat.{ℕ}
 use mathlib.Core.Path.{◌≡◌, refl}
 use mathlib.Core.Bool.{true, false, not, ◌&&◌}

@@ -16,6 +16,8 @@ use Rattle.embed_class.proofs.Stored.{Fit, row_fits, row_back, still_images, as_
 fit_same : (row other : List Module) (s : List ℕ) → SameSeats row other → Fit other s → Fit row s
 unfolding Fit
 fit_same [] [] s none f = f
+fit_same [] (x ∷ other) s h f = elim h [ ]
+fit_same (m ∷ row) [] s h f = elim h [ ]
 fit_same (m ∷ row) (x ∷ other) s (next e k rest) f =
     (record { is_one = f.0.is_one; who = e ∙ f.0.who; of_kind = k ∙ f.0.of_kind }, fit_same row other (drop LENGTH s) rest f.1)
 

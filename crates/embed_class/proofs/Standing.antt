@@ -35,6 +35,7 @@ for_all Round.One e = clash e refl
 for_all Round.All e = refl
 
 for_one : (r : Round) → Serves r → is_for_all r ≡ false → r ≡ Round.One
+for_one Round.Note h e = elim h [ ]
 for_one Round.One one e = refl
 for_one Round.All all e = clash refl e
 

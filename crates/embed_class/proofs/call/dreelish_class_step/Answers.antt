@@ -1,35 +1,28 @@
-use mathlib.Core.Path.{◌≡◌, sym, ◌∙◌}
-use mathlib.Core.Bool.{true}
-use borrow.Author.Rules.{rules}
-use borrow.Author.Tests.{not-true, not-false, lt-leb}
-use Rattle.embed_class.specs.Row.{is_row}
+use mathlib.Core.Path.{sym, ◌∙◌}
+use borrow.Author.Tests.{lt-leb}
 use Rattle.embed_class.proofs.ClassServed.{refused, crowd, served}
 use Rattle.embed_class.proofs.call.dreelish_class_step.Goals as goal
 
--- what it is called with, where it was asked whether the images are a row
-abbrev start : tie.After-is-row → tie.Start
-start asked = asked.before.before.before.before.before.before.before
-
 pub returns-then-not-is_row : goal.returns-then-not-is_row
 returns-then-not-is_row c =
-    let g = (start asked).args in
+    let g = c.args in
     refused g.images.now g.count g.links.now g.message.now g.room.now g.report.now
     (rw (sym c.is_row.ensures ∙ c.if-not-is_row.true))
 
 pub returns-then-report-lt2 : goal.returns-then-report-lt2
 returns-then-report-lt2 c =
-    let g = (start asked).args in
+    let g = c.args in
     refused g.images.now g.count g.links.now g.message.now g.room.now g.report.now
     (rw (sym c.is_row.ensures ∙ c.if-not-is_row.false, lt-leb 2 _ c.if-report-lt2.true))
 
 pub returns-then-count-gt16 : goal.returns-then-count-gt16
 returns-then-count-gt16 c =
-    let g = (start @@After-is_row).args in
-    crowd g.images.now g.count g.links.now g.message.now g.room.now g.report.now (is_one @@Else1) c.if-report-lt2.false
+    let g = c.args in
+    crowd g.images.now g.count g.links.now g.message.now g.room.now g.report.now (sym c.is_row.ensures ∙ c.if-not-is_row.false) c.if-report-lt2.false
     c.if-count-gt16.true _ _ c.tell.ensures c.class_number.ensures
 
 pub returns : goal.returns
 returns c =
-    let g = (start @@After-is_row).args in
-    served g.images.now g.count g.links.now g.message.now g.room.now g.report.now (is_one @@Else1) c.if-report-lt2.false
+    let g = c.args in
+    served g.images.now g.count g.links.now g.message.now g.room.now g.report.now (sym c.is_row.ensures ∙ c.if-not-is_row.false) c.if-report-lt2.false
     c.serve_row-answer.result _ _ _ _ _ c.serve_row-answer.ensures c.tell-2.ensures c.class_number-2.ensures

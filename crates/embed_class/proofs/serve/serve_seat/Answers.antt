@@ -1,9 +1,6 @@
 -- The seat's image and its share are lent, and put back as the step left them.
-use borrow.Author.Rules.{rules}
 use Rattle.embed_class.proofs.Seated.{comes}
 use Rattle.embed_class.proofs.serve.serve_seat.Goals as goal
-
--- The seat's image and its share are lent, and put back as the step left them.
 
 pub returns : goal.returns
 returns c =

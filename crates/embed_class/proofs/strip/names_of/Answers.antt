@@ -1,23 +1,17 @@
-use Prim.Native.Nat.{ℕ, ◌+◌, ◌-◌, ◌*◌, ◌≤◌, ◌<◌}
-use mathlib.Core.Path.{◌≡◌, refl, ◌∙◌, ap}
-use mathlib.Core.List.{◌++◌}
+use Prim.Native.Nat.{ℕ, ◌+◌, ◌-◌, ◌*◌}
+use mathlib.Core.Path.{◌≡◌, ◌∙◌, ap}
 use native.Mathlib.Omega.{arith}
-use lib.ListN.{length, take, drop, length-set}
+use lib.ListN.{take, drop, length-set}
 use Rattle.image.specs.Places.{LENGTH}
-use Rattle.embed_class.specs.Row.{row_of, names_of}
 use Rattle.embed_class.proofs.Named.{one_named, all_named_lem}
 use Rattle.embed_class.proofs.strip.names_of.Goals as goal
-
--- the place is one of the sixteen
-few : (c : tie.After-shared-slice-known3 invariant-loop decreases-loop) → c.before.before.before.before.loop.i < 16
-few c = omega (arith, c.before.before.before.before.before.requires.1)
 
 pub loop-i-preserved : goal.loop-i-preserved
 loop-i-preserved c =
     let t = c.loop-i in
     let g = c.args in
     let fewer : g.count - (t.i + 1) ≡ g.count - t.i - 1 = omega arith in
-    let noted = one_named (g.count - t.i) t.i t.names g.images.now (omega arith) (omega (arith, few c)) in
+    let noted = one_named (g.count - t.i) t.i t.names g.images.now (omega arith) (omega (arith, c.requires.count_bound, t.invariant.1)) in
     (omega arith, length-set t.names t.i _ ∙ t.invariant.1, rw fewer (noted ∙ t.invariant.2))
 
 pub returns : goal.returns

@@ -1,15 +1,12 @@
 -- The addresses noted so far, with those of the images that are left, are all of the row's.
-use Prim.Native.Nat.{ℕ, ◌+◌, ◌-◌, ◌*◌, ◌≤◌, ◌<◌}
-use mathlib.Core.Path.{◌≡◌, refl, ◌∙◌, ap}
+use Prim.Native.Nat.{◌-◌, ◌*◌, ◌≤◌}
+use mathlib.Core.Path.{◌≡◌}
 use mathlib.Core.List.{◌++◌}
-use native.Mathlib.Omega.{arith}
-use lib.ListN.{length, take, drop, length-set}
+use lib.ListN.{length, take, drop}
 use Rattle.image.specs.Places.{LENGTH}
 use Rattle.embed_class.specs.Row.{row_of, names_of}
-use Rattle.embed_class.proofs.Named.{one_named, all_named_lem}
 use Rattle.embed_class.proofs.strip.names_of.Given as goal
 
--- The addresses noted so far, with those of the images that are left, are all of the row's.
 abbrev pub invariant-loop-i : goal.invariant-loop-i
 invariant-loop-i l =
     (l.i ≤ l.count)

@@ -1,4 +1,5 @@
 use mathlib.Core.Path.{sym, ◌∙◌}
+use native.Mathlib.Omega.{arith}
 use borrow.Author.Tests.{lt-leb}
 use Rattle.embed_class.proofs.ClassServed.{refused, crowd, served}
 use Rattle.embed_class.proofs.call.dreelish_class_step.Goals as goal
@@ -19,7 +20,7 @@ pub returns-then-count-gt16 : goal.returns-then-count-gt16
 returns-then-count-gt16 c =
     let g = c.args in
     crowd g.images.now g.count g.links.now g.message.now g.room.now g.report.now (sym c.is_row.ensures ∙ c.if-not-is_row.false) c.if-report-lt2.false
-    c.if-count-gt16.true _ _ c.tell.ensures c.class_number.ensures
+    (omega arith) _ _ c.tell.ensures c.class_number.ensures
 
 pub returns : goal.returns
 returns c =

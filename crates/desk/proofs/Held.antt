@@ -1,7 +1,6 @@
--- What is held: bytes read behind others leave those alone, and what is kept moves to the start.
+-- What is held: what is kept moves to the start, and more is read behind it.
 use Rattle.std.proofs.Common.{◌≡◌, ℕ, ◌-◌, ◌<◌, ◌≤◌, true, List, [], ◌++◌, length, take, drop, sym, refl, ap, ◌∙◌, append_assoc, append-nil, arith, length-append, length-drop, take-append-drop, length-take-le, take-take, take_at}
 use lib.Seq.{take-append-le}
-use borrow.Rule.Slice.PartMut.{put_mid}
 use Rattle.basis.specs.Laid.{laid}
 use Rattle.basis.proofs.Tests.{clash}
 use Rattle.modem.specs.Stream.{cut_by}
@@ -10,10 +9,6 @@ use Rattle.desk.specs.declared.serve.Progress.{Progress}
 use Rattle.desk.specs.Desk.{closed_of}
 use Rattle.desk.specs.Passed.{ArrivedPromise, HeldPromise, ReadPromise}
 use Rattle.desk.proofs.Passed.{still, then, more, less}
-
--- a part from n on, whatever comes back in its place
-pub untouched : (n : ℕ) (xs ys : List ℕ) → n ≤ length xs → take n (put_mid n (length xs - n) xs ys) ≡ take n xs
-untouched n xs ys h = take_at (take n xs) _ n (length-take-le n xs h)
 
 -- what is kept stands at the start
 at_start : (used : ℕ) (xs : List ℕ) → take (length xs - used) (laid (drop used xs) xs) ≡ drop used xs

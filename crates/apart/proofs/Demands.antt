@@ -86,7 +86,7 @@ seat_unmissed c sits i h xs kept left steps given m k =
 
 pub seat_takes_effect : SeatTakesEffect
 seat_takes_effect c sits x i h e linked room legal =
-    let said : Answers (tell c x) (call_of (alone c i) x) = answered_alone c sits x i h (is_for_lem (name_at c.row i) x.message linked.well_formed_lem linked.is-direct) (not_broadcast x.message linked.is-direct) in
+    let said : Answers (tell c x) (call_of (alone c i) x) = answered_alone c sits x i h (is_for_lem (name_at c.row i) x.message linked.well-formed linked.is-direct) (not_broadcast x.message linked.is-direct) in
     let ends = taken (seat_at c.row i) (alone c i).links x.message x.room e linked room legal in
     record {
       result = ap class_number_of said.outcome ∙ ends.result;

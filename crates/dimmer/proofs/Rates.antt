@@ -1,10 +1,8 @@
 -- Two lamps that differ by ramp rate and on level answer alike.
 use Prim.Native.Nat.{ℕ}
-use mathlib.Core.Path.{◌≡◌, refl, ◌∙◌}
-use mathlib.Core.Bool.{Bool, true, false}
+use mathlib.Core.Path.{◌≡◌, refl}
 use mathlib.Core.List.{List}
 use lib.Dec.{eqb, leb}
-use Rattle.basis.specs.Choice.{choose}
 use Rattle.basis.proofs.Choice.{beside}
 use Rattle.basis.proofs.Table.{altered-rows}
 use Rattle.wire.specs.declared.request.Request.{Request}

@@ -22,7 +22,7 @@ pub struct Plan {
 #[derive(Clone, Copy)]
 pub enum Writing {
     Nothing,
-    // The record, and how many bytes, from Data 6 on, go over its first ones; they stay in the message, since no enum holds an array.
+    // The record, and how many bytes, from Data 6 on, go over its first ones; they stay in the message: with the older kit no enum held an array.
     Record(usize, usize),
 }
 

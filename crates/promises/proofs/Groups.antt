@@ -10,7 +10,7 @@ use borrow.Author.Tests.{eqb-true}
 use Rattle.basis.specs.Choice.{choose}
 use Rattle.basis.proofs.Tests.{both, clash}
 use Rattle.wire.specs.declared.command.GroupCommand.{GroupCommand}
-use Rattle.wire.specs.Bytes.{from_of, to_of, command1_of, command2_of, request_of, data_of}
+use Rattle.wire.specs.Bytes.{from_of, to_of, command1_of, command2_of, request_of}
 use Rattle.wire.specs.Commands.{group_command_of}
 use Rattle.wire.specs.Kinds.{is_cleanup, is_broadcast}
 use Rattle.wire.specs.Asked.{GroupCommand1}

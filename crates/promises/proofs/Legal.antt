@@ -26,7 +26,6 @@ use Rattle.module.specs.declared.deed.Deed.{Deed}
 use Rattle.module.specs.declared.deed.LoadEntry.{LoadEntry}
 use Rattle.module.specs.Plan.{deed_plan}
 use Rattle.shared.specs.Extended.{property_deed, properties_deed}
-use Rattle.shared.specs.Table.{shared_deed}
 use Rattle.dimmer.proofs.Legal as dimmers
 use Rattle.outlet.specs.Load.{status_entry, load_entry, bottom_entry, second_entry}
 use Rattle.outlet.specs.Properties.{property_entry, properties_entry}
@@ -36,7 +35,7 @@ use Rattle.decide.specs.Ruling.{ruling_of}
 use Rattle.device.specs.Step.{step_of}
 use Rattle.promises.specs.NotHere.{NotHere, on-fast, off-fast, brighten, dim, instant, percent, on-at-ramp, off-at-ramp}
 use Rattle.promises.specs.NotHere.{other-status, set-ramp, set-on-level, other-on, other-off}
-use Rattle.promises.specs.Legal.{Effect, Shared, FromLinked, Taken}
+use Rattle.promises.specs.Legal.{Effect, FromLinked, Taken}
 use Rattle.promises.specs.LegalAny.{Own, dimmer, outlet, Brought, done, shows, shown, Legal, shared, own, TakesEffect, ElseSeven, OutletSeven}
 use Rattle.promises.proofs.Ruled.{deed_in, ruled_linked}
 use Rattle.promises.proofs.Brings.{Brings, brought, numbered_by}
@@ -107,10 +106,10 @@ module _ (m : Module) (l s : List ℕ) where
     taken-looked-at planned room e enough x = brought m l s room e _ w enough planned (fulfils e x)
 
 planned : (m : Module) (l s : List ℕ) → FromLinked m l s → (ruling_of m l s).plan ≡ deed_plan m (request_of s) (deed_in m l s)
-planned m l s h = ruled_linked m l s h.is_fit_lem h.well_formed_lem h.is-direct h.linked
+planned m l s h = ruled_linked m l s h.is-fit h.well-formed h.is-direct h.linked
 
 pub taken : TakesEffect
-taken m l s room e h enough x = taken-looked-at m l s h.well_formed_lem (planned m l s h) room e enough x
+taken m l s room e h enough x = taken-looked-at m l s h.well-formed (planned m l s h) room e enough x
 
 pub unlisted : (m : Module) (l s room : List ℕ) → FromLinked m l s → 9 ≤ length room → deed_in m l s ≡ Deed.Unlisted → number_of (step_of m l s room).outcome ≡ 7
 unlisted m l s room h enough p = numbered_by m l s room Outcome.Unlisted _ (planned m l s h ∙ ap (deed_plan m (request_of s)) p) enough

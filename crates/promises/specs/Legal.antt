@@ -102,8 +102,8 @@ module _ (m : Module) (l s : List ℕ) where
 
 -- a well-formed direct message of a linked sender, to a module with fit link memory
 pub record FromLinked (m : Module) (l s : List ℕ) : Type 0 where
-  pub is_fit_lem : is_fit l ≡ true
-  pub well_formed_lem : well_formed s m.identity.address ≡ true
+  pub is-fit : is_fit l ≡ true
+  pub well-formed : well_formed s m.identity.address ≡ true
   pub is-direct : is_direct s ≡ true
   pub linked : Linked l (from_of s)
 

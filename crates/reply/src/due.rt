@@ -23,7 +23,7 @@ pub struct Head {
     pub command2: u8,
 }
 
-// Data 1 to Data 14 by name, since what is due is an enum, and no enum holds an array.
+// Data 1 to Data 14 by name: what is due is an enum, and with the older kit no enum held an array.
 #[derive(Clone, Copy)]
 pub struct DataBytes {
     pub d1: u8,

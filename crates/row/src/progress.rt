@@ -56,7 +56,7 @@ pub struct Task {
     pub to: Address,
 }
 
-// What moves comes first: the walk along the row reads the seat and the answer, by their places here.
+// How far the row is with a message: what moves with each turn, and the task, which stays.
 #[derive(Clone, Copy)]
 pub struct Progress {
     // Whose turn it is; the number of seats where no turn is left.

@@ -1,5 +1,5 @@
-use Prim.Native.Nat.{ℕ, ◌<◌, ◌≤◌}
-use mathlib.Core.Path.{◌≡◌, subst}
+use Prim.Native.Nat.{ℕ, ◌<◌}
+use mathlib.Core.Path.{subst}
 use mathlib.Core.List.{List}
 use native.Mathlib.Omega.{arith}
 use lib.ListN.{length, set, get_or}
@@ -10,9 +10,8 @@ use Rattle.row.specs.declared.progress.Progress.{Progress}
 use Rattle.class.specs.Seat.{nobody, seat_at}
 use Rattle.class.specs.Class.{ClassStep, class_of}
 use Rattle.class.specs.Turns.{Turn, turn_of, Took}
-use Rattle.class.proofs.Runs.{Runs, Next, next, over, counted}
+use Rattle.class.proofs.Runs.{Runs, next, over, counted}
 use Rattle.class.proofs.Rounds.{opens}
-use Rattle.class.proofs.step.class_step.Invariants.{Left}
 use Rattle.class.proofs.step.class_step.Goals as goal
 
 module _ (target : ClassStep) (heard : Message) (bytes : ℕ) (xs : List Module) (t : Progress) (ls rs : List ℕ) (inside : t.seat < length xs) where

@@ -7,7 +7,6 @@ use Rattle.row.specs.Round.{settled_if_few}
 use mathlib.Core.Bool.{false}
 use native.Mathlib.Omega.{arith}
 use lib.Dec.{ltb}
-use borrow.Author.Rules.{rules}
 use borrow.Author.Tests.{lt-ltb, le-ltb}
 use Rattle.basis.specs.Choice.{choose}
 use Rattle.class.proofs.turn.noted.Goals as goal

@@ -1,5 +1,4 @@
 -- The seat's share is lent, and put back as the step left it.
-use borrow.Author.Rules.{rules}
 use Rattle.class.proofs.Shared.{put_back}
 use Rattle.class.proofs.turn.step_in.Goals as goal
 

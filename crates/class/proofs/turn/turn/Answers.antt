@@ -1,13 +1,8 @@
 use Prim.Native.Nat.{ℕ, ◌≤◌}
-use mathlib.Core.Path.{refl, sym, subst, ap}
+use mathlib.Core.Path.{sym, subst}
 use native.Mathlib.Omega.{arith}
-use borrow.Author.Rules.{rules}
 use Rattle.device.proofs.Counted.{most_read}
-use Rattle.row.specs.declared.progress.Round.{Round}
-use Rattle.class.specs.declared.turn.Tended.{Tended}
 use Rattle.class.specs.Seat.{share_at}
-use Rattle.class.specs.Turns.{served, offered}
-use Rattle.class.proofs.Shared.{goes_on, by_round}
 use Rattle.class.proofs.turn.turn.Goals as goal
 
 -- a step reads no more records than a share has

@@ -1,6 +1,5 @@
 use mathlib.Core.Path.{sym, ◌∙◌}
 use Rattle.basis.specs.Choice.{choose}
-use borrow.Author.Rules.{rules}
 use Rattle.decide.proofs.plan.broadcast_wanted.Goals as goal
 
 pub returns-then-is_call : goal.returns-then-is_call

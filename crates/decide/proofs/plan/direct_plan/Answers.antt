@@ -1,6 +1,5 @@
 use Rattle.basis.specs.Choice.{choose}
 use Rattle.decide.specs.Decide.{direct_plan}
-use borrow.Author.Rules.{rules}
 use Rattle.decide.proofs.plan.direct_plan.Goals as goal
 
 pub returns-then-needs_no_link-is_found : goal.returns-then-needs_no_link-is_found

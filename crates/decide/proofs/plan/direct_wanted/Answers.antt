@@ -1,6 +1,5 @@
 use mathlib.Core.Path.{sym, ◌∙◌}
 use Rattle.basis.specs.Choice.{choose}
-use borrow.Author.Rules.{rules}
 use Rattle.decide.proofs.plan.direct_wanted.Goals as goal
 
 pub returns-then-needs_no_link : goal.returns-then-needs_no_link

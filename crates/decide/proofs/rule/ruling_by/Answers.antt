@@ -1,8 +1,6 @@
 use mathlib.Core.Path.{sym, ◌∙◌}
-use borrow.Author.Tests.{not-true, not-false}
 use Rattle.basis.specs.Choice.{choose}
 use Rattle.decide.specs.Ruling.{ruling_by}
-use borrow.Author.Rules.{rules}
 use Rattle.decide.proofs.rule.ruling_by.Goals as goal
 
 pub returns-then-not-is_fit : goal.returns-then-not-is_fit

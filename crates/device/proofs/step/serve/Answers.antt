@@ -1,5 +1,4 @@
 -- What was decided is finished by what sending the reply came to.
-use borrow.Author.Rules.{rules}
 use Rattle.device.proofs.Finished.{finished}
 use Rattle.device.proofs.step.serve.Goals as goal
 

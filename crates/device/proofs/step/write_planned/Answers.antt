@@ -1,12 +1,10 @@
 -- The bytes that a write names are lent from among the data bytes.
-use Prim.Native.Nat.{ℕ, ◌+◌, ◌-◌}
-use mathlib.Core.Path.{◌≡◌, sym}
+use mathlib.Core.Path.{sym}
 use native.Mathlib.Omega.{arith}
 use lib.ListN.{take, drop, length-take, length-drop}
 use borrow.Kind.Array.{e_int, good_length}
 use mir.Syntax.{w8}
 use Rattle.links.proofs.Written.{too_many}
-use borrow.Author.Rules.{rules}
 use Rattle.device.proofs.step.write_planned.Goals as goal
 
 pub returns-else-n-le8 : goal.returns-else-n-le8

@@ -3,7 +3,6 @@ use mathlib.Core.Path.{sym, ◌∙◌}
 use Rattle.basis.specs.Choice.{choose}
 use Rattle.basis.proofs.Table.{missed}
 use Rattle.dimmer.specs.Load.{load_rows, load_entry}
-use borrow.Author.Rules.{rules}
 use Rattle.dimmer.proofs.commands.load_entry.Goals as goal
 
 pub returns-in-17 : goal.returns-in-17

@@ -2,7 +2,6 @@ use native.Mathlib.Omega.{arith}
 use borrow.Author.Tests.{le-leb, lt-leb}
 use Rattle.basis.specs.Choice.{choose}
 use Rattle.dimmer.specs.Load.{percent_entry}
-use borrow.Author.Rules.{rules}
 use Rattle.dimmer.proofs.commands.percent_entry.Goals as goal
 
 pub returns-in-0-to-100 : goal.returns-in-0-to-100

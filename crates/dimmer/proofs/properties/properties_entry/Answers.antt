@@ -1,7 +1,6 @@
 use borrow.Author.Tests.{ne_eqb}
 use Rattle.basis.specs.Choice.{choose}
 use Rattle.dimmer.specs.Properties.{properties_entry}
-use borrow.Author.Rules.{rules}
 use Rattle.dimmer.proofs.properties.properties_entry.Goals as goal
 
 pub returns-in-0 : goal.returns-in-0

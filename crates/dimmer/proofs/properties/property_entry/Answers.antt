@@ -2,7 +2,6 @@ use mathlib.Core.Path.{sym, ◌∙◌}
 use Rattle.basis.specs.Choice.{choose}
 use Rattle.basis.proofs.Table.{missed}
 use Rattle.dimmer.specs.Properties.{property_rows, property_entry}
-use borrow.Author.Rules.{rules}
 use Rattle.dimmer.proofs.properties.property_entry.Goals as goal
 
 pub returns-in-0 : goal.returns-in-0

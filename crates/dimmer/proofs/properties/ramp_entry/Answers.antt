@@ -2,7 +2,6 @@ use native.Mathlib.Omega.{arith}
 use borrow.Author.Tests.{le-leb, lt-leb}
 use Rattle.basis.specs.Choice.{choose}
 use Rattle.dimmer.specs.Properties.{ramp_entry}
-use borrow.Author.Rules.{rules}
 use Rattle.dimmer.proofs.properties.ramp_entry.Goals as goal
 
 pub returns-in-0-to-31 : goal.returns-in-0-to-31

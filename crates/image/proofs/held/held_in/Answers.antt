@@ -1,9 +1,6 @@
-use mathlib.Core.Path.{◌≡◌, sym, ◌∙◌}
-use mathlib.Core.Bool.{true}
-use borrow.Author.Rules.{rules}
-use borrow.Author.Tests.{not-true, not-false}
+use mathlib.Core.Path.{sym, ◌∙◌}
 use Rattle.basis.specs.Choice.{choose}
-use Rattle.image.specs.Image.{is_image, held_in}
+use Rattle.image.specs.Image.{held_in}
 use Rattle.image.proofs.Whole.{long}
 use Rattle.image.proofs.held.held_in.Goals as goal
 

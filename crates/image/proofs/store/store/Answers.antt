@@ -1,13 +1,11 @@
 use mathlib.Core.Path.{◌≡◌, sym, ◌∙◌}
-use mathlib.Core.Bool.{true}
 use native.Mathlib.Omega.{arith}
 use lib.ListN.{get_or}
-use borrow.Author.Rules.{rules}
-use borrow.Author.Tests.{not-true, not-false, ne_eqb}
+use borrow.Author.Tests.{ne_eqb}
 use Rattle.basis.specs.Choice.{choose}
 use Rattle.module.specs.Module.{kind_of}
 use Rattle.image.specs.Places.{KIND}
-use Rattle.image.specs.Image.{is_image, stored_if_own}
+use Rattle.image.specs.Image.{stored_if_own}
 use Rattle.image.proofs.Whole.{long, own}
 use Rattle.image.proofs.store.store.Goals as goal
 

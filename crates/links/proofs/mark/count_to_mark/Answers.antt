@@ -1,10 +1,8 @@
-use Prim.Native.Nat.{ℕ, pred, min, ◌≤◌, ◌-◌, ◌+◌}
+use Prim.Native.Nat.{ℕ, pred, min, ◌-◌, ◌+◌}
 use mathlib.Core.Path.{◌≡◌, sym, ◌∙◌}
 use mathlib.Core.Bool.{true, false}
 use mathlib.Core.List.{List}
-use native.Mathlib.Nat.{sub-zero, add-zero}
 use native.Mathlib.Omega.{arith}
-use borrow.Author.Rules.{rules}
 use Rattle.basis.specs.First.{first_from}
 use Rattle.basis.proofs.First.{none, here, later}
 use Rattle.links.specs.Mark.{mark_at, up_to_mark}

@@ -1,14 +1,8 @@
 -- The first end mark of those that are left is the first of all.
-use Prim.Native.Nat.{ℕ, pred, min, ◌≤◌, ◌-◌, ◌+◌}
-use mathlib.Core.Path.{◌≡◌, sym, ◌∙◌}
-use mathlib.Core.Bool.{true, false}
-use mathlib.Core.List.{List}
-use native.Mathlib.Nat.{sub-zero, add-zero}
-use native.Mathlib.Omega.{arith}
-use borrow.Author.Rules.{rules}
+use Prim.Native.Nat.{◌≤◌, ◌-◌, ◌+◌}
+use mathlib.Core.Path.{◌≡◌}
 use Rattle.basis.specs.First.{first_from}
-use Rattle.basis.proofs.First.{none, here, later}
-use Rattle.links.specs.Mark.{mark_at, up_to_mark}
+use Rattle.links.specs.Mark.{mark_at}
 use Rattle.links.proofs.mark.count_to_mark.Given as goal
 
 -- The first end mark of those that are left is the first of all.

@@ -1,5 +1,4 @@
 use native.Mathlib.Omega.{arith}
-use borrow.Author.Rules.{rules}
 use Rattle.links.specs.Mark.{up_to_mark}
 use Rattle.links.proofs.mark.up_to_mark.Goals as goal
 

@@ -1,5 +1,4 @@
 use Rattle.basis.specs.Choice.{choose}
-use borrow.Author.Rules.{rules}
 use borrow.Author.Tests.{lt-ltb, le-ltb}
 use Rattle.links.proofs.memory.record_or_blank.Goals as goal
 

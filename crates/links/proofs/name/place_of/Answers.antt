@@ -1,6 +1,5 @@
 use mathlib.Core.Path.{sym}
 use native.Mathlib.Omega.{arith}
-use borrow.Author.Rules.{rules}
 use Rattle.links.proofs.Named.{legal, illegal}
 use Rattle.links.proofs.name.place_of.Goals as goal
 

@@ -1,5 +1,4 @@
 use mathlib.Core.Path.{sym, ◌∙◌}
-use borrow.Author.Rules.{rules}
 use Rattle.basis.specs.Choice.{choose}
 use Rattle.links.proofs.search.search.Goals as goal
 

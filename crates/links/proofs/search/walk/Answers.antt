@@ -1,11 +1,9 @@
-use Prim.Native.Nat.{pred, ◌≤◌, ◌-◌, ◌+◌, ◌/◌}
+use Prim.Native.Nat.{pred, ◌-◌, ◌+◌, ◌/◌}
 use mathlib.Core.Path.{◌≡◌, sym, ◌∙◌}
 use mathlib.Core.Bool.{true, false}
 use native.Mathlib.Nat.{sub-zero}
 use native.Mathlib.Omega.{arith}
 use lib.ListN.{length}
-use borrow.Author.Rules.{rules}
-use Rattle.basis.specs.First.{first_from}
 use Rattle.basis.proofs.First.{none, here, later}
 use Rattle.links.specs.Record.{record_at, is_end_mark}
 use Rattle.links.specs.Search.{matches, settles_at, stop_of}

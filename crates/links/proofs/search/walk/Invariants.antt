@@ -1,16 +1,8 @@
 -- What is left to search from record i on stops where the whole search stops.
-use Prim.Native.Nat.{pred, ◌≤◌, ◌-◌, ◌+◌, ◌/◌}
-use mathlib.Core.Path.{◌≡◌, sym, ◌∙◌}
-use mathlib.Core.Bool.{true, false}
-use native.Mathlib.Nat.{sub-zero}
-use native.Mathlib.Omega.{arith}
-use lib.ListN.{length}
-use borrow.Author.Rules.{rules}
+use Prim.Native.Nat.{◌≤◌, ◌-◌}
+use mathlib.Core.Path.{◌≡◌}
 use Rattle.basis.specs.First.{first_from}
-use Rattle.basis.proofs.First.{none, here, later}
-use Rattle.links.specs.Record.{record_at, is_end_mark}
-use Rattle.links.specs.Search.{matches, settles_at, stop_of}
-use Rattle.links.proofs.Stop.{at_memory_end, at_end_mark, at_match}
+use Rattle.links.specs.Search.{settles_at, stop_of}
 use Rattle.links.proofs.search.walk.Given as goal
 
 -- What is left to search from record i on stops where the whole search stops.

@@ -1,7 +1,6 @@
 use borrow.Author.Tests.{ne_eqb}
 use Rattle.basis.specs.Choice.{choose}
 use Rattle.outlet.specs.Load.{bottom_entry}
-use borrow.Author.Rules.{rules}
 use Rattle.outlet.proofs.commands.bottom_entry.Goals as goal
 
 pub returns-in-2 : goal.returns-in-2

@@ -2,7 +2,6 @@ use mathlib.Core.Path.{sym, ◌∙◌}
 use Rattle.basis.specs.Choice.{choose}
 use Rattle.basis.proofs.Table.{missed}
 use Rattle.outlet.specs.Load.{load_rows, load_entry}
-use borrow.Author.Rules.{rules}
 use Rattle.outlet.proofs.commands.load_entry.Goals as goal
 
 pub returns-in-17 : goal.returns-in-17

@@ -2,7 +2,6 @@ use mathlib.Core.Path.{sym, ◌∙◌}
 use Rattle.basis.specs.Choice.{choose}
 use Rattle.basis.proofs.Table.{missed}
 use Rattle.outlet.specs.Load.{second_rows, second_entry}
-use borrow.Author.Rules.{rules}
 use Rattle.outlet.proofs.commands.second_entry.Goals as goal
 
 pub returns-in-17 : goal.returns-in-17

@@ -2,7 +2,6 @@ use mathlib.Core.Path.{sym, ◌∙◌}
 use Rattle.basis.specs.Choice.{choose}
 use Rattle.basis.proofs.Table.{missed}
 use Rattle.outlet.specs.Load.{statuses, status_entry}
-use borrow.Author.Rules.{rules}
 use Rattle.outlet.proofs.commands.status_entry.Goals as goal
 
 pub returns-in-0 : goal.returns-in-0

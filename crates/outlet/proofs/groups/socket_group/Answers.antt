@@ -2,7 +2,6 @@ use mathlib.Core.Path.{sym, ◌∙◌}
 use Rattle.basis.specs.Choice.{choose}
 use Rattle.basis.proofs.Table.{missed}
 use Rattle.outlet.specs.Groups.{socket_rows, socket_group}
-use borrow.Author.Rules.{rules}
 use Rattle.outlet.proofs.groups.socket_group.Goals as goal
 
 pub returns-in-1 : goal.returns-in-1

@@ -1,7 +1,6 @@
 use borrow.Author.Tests.{ne_eqb}
 use Rattle.basis.specs.Choice.{choose}
 use Rattle.outlet.specs.Properties.{property_entry}
-use borrow.Author.Rules.{rules}
 use Rattle.outlet.proofs.properties.property_entry.Goals as goal
 
 pub returns-in-0 : goal.returns-in-0

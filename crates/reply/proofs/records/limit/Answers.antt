@@ -1,5 +1,4 @@
 use native.Mathlib.Omega.{arith}
-use borrow.Author.Rules.{rules}
 use borrow.Author.Tests.{eq-eqb, ne_eqb}
 use Rattle.basis.specs.Choice.{choose}
 use Rattle.reply.proofs.records.limit.Goals as goal

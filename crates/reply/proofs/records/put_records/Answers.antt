@@ -1,8 +1,8 @@
-use Prim.Native.Nat.{ℕ, pred, ◌≤◌, ◌-◌, ◌+◌, ◌*◌}
-use mathlib.Core.Path.{◌≡◌, refl, sym, ◌∙◌, ap}
+use Prim.Native.Nat.{ℕ, pred, ◌-◌, ◌+◌, ◌*◌}
+use mathlib.Core.Path.{◌≡◌, sym, ◌∙◌, ap}
 use mathlib.Core.List.{List, [], ◌∷◌, ◌++◌}
 use native.Mathlib.Omega.{arith}
-use lib.ListN.{length, take, drop, take-append-drop}
+use lib.ListN.{take, drop, take-append-drop}
 use lib.Seq.{length-take-le, take-append-le, take-take}
 use Rattle.basis.specs.Laid.{laid}
 use Rattle.basis.specs.Spell.{spell}

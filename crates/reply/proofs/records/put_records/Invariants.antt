@@ -1,17 +1,11 @@
 -- What is left to lay, behind what is laid, gives the whole; whoever sends, the first message stays as it is.
-use Prim.Native.Nat.{ℕ, pred, ◌≤◌, ◌-◌, ◌+◌, ◌*◌}
-use mathlib.Core.Path.{◌≡◌, refl, sym, ◌∙◌, ap}
-use mathlib.Core.List.{List, [], ◌∷◌, ◌++◌}
-use native.Mathlib.Omega.{arith}
-use lib.ListN.{length, take, drop, take-append-drop}
-use lib.Seq.{length-take-le, take-append-le, take-take}
+use Prim.Native.Nat.{ℕ, ◌≤◌, ◌-◌, ◌+◌, ◌*◌}
+use mathlib.Core.Path.{◌≡◌}
+use mathlib.Core.List.{List, ◌++◌}
+use lib.ListN.{length, take, drop}
 use Rattle.basis.specs.Laid.{laid}
-use Rattle.basis.specs.Spell.{spell}
-use Rattle.basis.proofs.Laid.{fits, inner, further}
 use Rattle.wire.specs.declared.address.Address.{Address}
-use Rattle.reply.specs.Message.{extended}
 use Rattle.reply.specs.Records.{record_message, records_from}
-use Rattle.reply.proofs.Upward.{none, more, length_records}
 use Rattle.reply.proofs.records.put_records.Given as goal
 
 -- the first message stands, and i of n are laid

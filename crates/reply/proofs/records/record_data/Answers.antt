@@ -1,5 +1,4 @@
 use mathlib.Core.Path.{◌∙◌}
-use borrow.Author.Rules.{rules}
 use Rattle.links.proofs.Taken.{taken}
 use Rattle.reply.proofs.records.record_data.Goals as goal
 

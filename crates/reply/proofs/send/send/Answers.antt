@@ -2,7 +2,6 @@ use mathlib.Core.Path.{refl}
 use mathlib.Core.List.{[]}
 use native.Mathlib.Omega.{arith}
 use Rattle.reply.proofs.Measured.{whole}
-use borrow.Author.Rules.{rules}
 use Rattle.reply.proofs.send.send.Goals as goal
 
 pub returns-in-Nothing : goal.returns-in-Nothing

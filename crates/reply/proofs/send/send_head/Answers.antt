@@ -3,7 +3,6 @@ use native.Mathlib.Omega.{arith}
 use Rattle.basis.proofs.Laid.{fits}
 use Rattle.reply.specs.Message.{head_of}
 use Rattle.reply.proofs.Measured.{short, whole}
-use borrow.Author.Rules.{rules}
 use Rattle.reply.proofs.send.send_head.Goals as goal
 
 pub returns-then-room-lt9 : goal.returns-then-room-lt9

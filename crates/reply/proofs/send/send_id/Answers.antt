@@ -5,7 +5,6 @@ use Rattle.basis.proofs.Laid.{behind}
 use Rattle.reply.specs.declared.due.ReplyType.{ReplyType}
 use Rattle.reply.specs.Message.{standard, head_of}
 use Rattle.reply.proofs.Measured.{short, whole}
-use borrow.Author.Rules.{rules}
 use Rattle.reply.proofs.send.send_id.Goals as goal
 
 pub returns-then-room-lt18 : goal.returns-then-room-lt18

@@ -4,7 +4,6 @@ use native.Mathlib.Omega.{arith}
 use Rattle.basis.proofs.Laid.{behind}
 use Rattle.reply.specs.Message.{extended, head_of, data_bytes}
 use Rattle.reply.proofs.Measured.{short, whole}
-use borrow.Author.Rules.{rules}
 use Rattle.reply.proofs.send.send_properties.Goals as goal
 
 pub returns-then-room-lt32 : goal.returns-then-room-lt32

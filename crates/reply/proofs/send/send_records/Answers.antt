@@ -9,7 +9,6 @@ use Rattle.reply.specs.Message.{head_of}
 use Rattle.reply.specs.Records.{records_from, count_sent, sent_records}
 use Rattle.reply.proofs.Measured.{long, enough, short, whole}
 use Rattle.reply.proofs.Upward.{length_records}
-use borrow.Author.Rules.{rules}
 use Rattle.reply.proofs.send.send_records.Goals as goal
 
 -- A room that holds the messages holds the reply, and the other way round.

@@ -1,5 +1,4 @@
 -- Two digits make a byte.
-use borrow.Author.Rules.{rules}
 use native.Mathlib.Omega.{arith}
 use Rattle.roster.proofs.Digits.{digits}
 use Rattle.roster.proofs.bytes.byte_of.Goals as goal

@@ -1,4 +1,3 @@
-use borrow.Author.Rules.{rules}
 use borrow.Author.Tests.{eq-eqb, ne_eqb}
 use Rattle.roster.specs.Bytes.{is_byte}
 use Rattle.roster.proofs.bytes.is_byte.Goals as goal

@@ -1,5 +1,4 @@
 -- By how many bytes there are.
-use borrow.Author.Rules.{rules}
 use borrow.Author.Tests.{ne_eqb}
 use Rattle.basis.specs.Choice.{choose}
 use Rattle.roster.specs.Line.{line_as}

@@ -1,9 +1,7 @@
-use Prim.Native.Nat.{◌-◌}
 use native.Mathlib.Omega.{arith}
-use lib.ListN.{length}
 use borrow.Author.Tests.{eq-eqb, ne_eqb}
-use Rattle.roster.specs.Roster.{ends_at, line_end}
-use Rattle.roster.proofs.Places.{Sought, begun, met, passed, ended}
+use Rattle.roster.specs.Roster.{line_end}
+use Rattle.roster.proofs.Places.{met, passed, ended}
 use Rattle.roster.proofs.roster.line_end.Goals as goal
 
 pub returns-then-text-k-eq10 : goal.returns-then-text-k-eq10

@@ -1,10 +1,8 @@
 -- The first 0A is sought.
 use Prim.Native.Nat.{◌-◌}
-use native.Mathlib.Omega.{arith}
 use lib.ListN.{length}
-use borrow.Author.Tests.{eq-eqb, ne_eqb}
-use Rattle.roster.specs.Roster.{ends_at, line_end}
-use Rattle.roster.proofs.Places.{Sought, begun, met, passed, ended}
+use Rattle.roster.specs.Roster.{ends_at}
+use Rattle.roster.proofs.Places.{Sought}
 use Rattle.roster.proofs.roster.line_end.Given as goal
 
 -- The first 0A is sought.

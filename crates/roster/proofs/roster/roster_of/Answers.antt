@@ -1,10 +1,10 @@
-use Prim.Native.Nat.{ℕ, ◌-◌, ◌≤◌}
+use Prim.Native.Nat.{ℕ, ◌≤◌}
 use mathlib.Core.List.{List}
 use native.Mathlib.Omega.{arith}
 use lib.ListN.{length}
 use mathlib.Core.Path.{◌≡◌}
 use Rattle.roster.specs.Roster.{line_end}
-use Rattle.roster.proofs.Lines.{ends, further, Read, nothing_read, line_read, all_read}
+use Rattle.roster.proofs.Lines.{ends, further, nothing_read, line_read, all_read}
 use Rattle.roster.proofs.roster.roster_of.Goals as goal
 
 pub loop-at-init : goal.loop-at-init

@@ -1,9 +1,7 @@
 -- What is read up to a place, with the lines from there on, is the whole roster.
-use Prim.Native.Nat.{ℕ, ◌-◌, ◌≤◌}
-use mathlib.Core.List.{List}
-use native.Mathlib.Omega.{arith}
+use Prim.Native.Nat.{◌-◌}
 use lib.ListN.{length}
-use Rattle.roster.proofs.Lines.{ends, further, Read, nothing_read, line_read, all_read}
+use Rattle.roster.proofs.Lines.{Read}
 use Rattle.roster.proofs.roster.roster_of.Given as goal
 
 -- What is read up to a place, with the lines from there on, is the whole roster.

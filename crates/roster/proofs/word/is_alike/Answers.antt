@@ -1,10 +1,10 @@
-use Prim.Native.Nat.{ℕ, ◌≤◌, ◌-◌}
-use mathlib.Core.Path.{◌≡◌, refl, sym, ◌∙◌}
+use Prim.Native.Nat.{ℕ}
+use mathlib.Core.Path.{◌≡◌, sym, ◌∙◌}
 use mathlib.Core.List.{List}
 use native.Mathlib.Omega.{arith}
-use lib.ListN.{length, get_or, drop, length-map, get_or-map}
+use lib.ListN.{get_or, length-map, get_or-map}
 use Rattle.basis.specs.Choice.{choose}
-use Rattle.roster.specs.Word.{is_same, small_of, small_letters}
+use Rattle.roster.specs.Word.{small_of, small_letters}
 use Rattle.roster.proofs.Same.{unlike, none_left, equal_next, other-next}
 use Rattle.roster.proofs.word.is_alike.Goals as goal
 

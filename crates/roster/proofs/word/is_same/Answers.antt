@@ -1,8 +1,5 @@
-use Prim.Native.Nat.{◌≤◌, ◌-◌}
-use mathlib.Core.Path.{◌≡◌, refl, sym, ◌∙◌}
+use mathlib.Core.Path.{sym, ◌∙◌}
 use native.Mathlib.Omega.{arith}
-use lib.ListN.{length, drop}
-use Rattle.roster.specs.Word.{is_same}
 use Rattle.roster.proofs.Same.{unlike, none_left, equal_next, other-next}
 use Rattle.roster.proofs.word.is_same.Goals as goal
 

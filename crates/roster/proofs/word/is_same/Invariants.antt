@@ -1,10 +1,8 @@
 -- What is left of both from place i on is the same where the whole is.
 use Prim.Native.Nat.{◌≤◌, ◌-◌}
-use mathlib.Core.Path.{◌≡◌, refl, sym, ◌∙◌}
-use native.Mathlib.Omega.{arith}
+use mathlib.Core.Path.{◌≡◌}
 use lib.ListN.{length, drop}
 use Rattle.roster.specs.Word.{is_same}
-use Rattle.roster.proofs.Same.{unlike, none_left, equal_next, other-next}
 use Rattle.roster.proofs.word.is_same.Given as goal
 
 -- What is left of both from place i on is the same where the whole is.

@@ -1,5 +1,4 @@
 use mathlib.Core.Path.{sym, ◌∙◌}
-use borrow.Author.Rules.{rules}
 use Rattle.basis.specs.Choice.{choose}
 use Rattle.roster.specs.Word.{named}
 use Rattle.roster.proofs.word.named_any.Goals as goal

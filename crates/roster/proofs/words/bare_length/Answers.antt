@@ -1,9 +1,7 @@
-use Prim.Native.Nat.{◌-◌}
 use native.Mathlib.Nat.{sub-zero}
 use native.Mathlib.Omega.{arith}
-use lib.ListN.{length}
-use Rattle.roster.specs.Words.{stops_at, bare_length}
-use Rattle.roster.proofs.Places.{Sought, begun, met, passed, ended}
+use Rattle.roster.specs.Words.{bare_length}
+use Rattle.roster.proofs.Places.{met, passed, ended}
 use Rattle.roster.proofs.words.bare_length.Goals as goal
 
 pub returns-then-line-k : goal.returns-then-line-k

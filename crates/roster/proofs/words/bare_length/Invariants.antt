@@ -1,10 +1,8 @@
 -- The first place of # or of the last 0D is sought.
 use Prim.Native.Nat.{◌-◌}
-use native.Mathlib.Nat.{sub-zero}
-use native.Mathlib.Omega.{arith}
 use lib.ListN.{length}
-use Rattle.roster.specs.Words.{stops_at, bare_length}
-use Rattle.roster.proofs.Places.{Sought, begun, met, passed, ended}
+use Rattle.roster.specs.Words.{stops_at}
+use Rattle.roster.proofs.Places.{Sought}
 use Rattle.roster.proofs.words.bare_length.Given as goal
 
 -- The first place of # or of the last 0D is sought.

@@ -1,9 +1,7 @@
-use Prim.Native.Nat.{◌-◌}
 use mathlib.Core.Path.{sym, ◌∙◌}
 use native.Mathlib.Omega.{arith}
-use lib.ListN.{length}
-use Rattle.roster.specs.Words.{blank_at, word_end}
-use Rattle.roster.proofs.Places.{Sought, begun, met, passed, ended}
+use Rattle.roster.specs.Words.{word_end}
+use Rattle.roster.proofs.Places.{met, passed, ended}
 use Rattle.roster.proofs.words.word_end.Goals as goal
 
 pub returns-then-is_blank : goal.returns-then-is_blank

@@ -1,10 +1,8 @@
 -- The first blank is sought.
 use Prim.Native.Nat.{◌-◌}
-use mathlib.Core.Path.{sym, ◌∙◌}
-use native.Mathlib.Omega.{arith}
 use lib.ListN.{length}
-use Rattle.roster.specs.Words.{blank_at, word_end}
-use Rattle.roster.proofs.Places.{Sought, begun, met, passed, ended}
+use Rattle.roster.specs.Words.{blank_at}
+use Rattle.roster.proofs.Places.{Sought}
 use Rattle.roster.proofs.words.word_end.Given as goal
 
 -- The first blank is sought.

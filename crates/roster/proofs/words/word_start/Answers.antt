@@ -1,10 +1,8 @@
-use Prim.Native.Nat.{◌-◌}
 use mathlib.Core.Bool.{not}
 use mathlib.Core.Path.{ap}
 use native.Mathlib.Omega.{arith}
-use lib.ListN.{length}
-use Rattle.roster.specs.Words.{ink_at, word_start}
-use Rattle.roster.proofs.Places.{Sought, begun, met, passed, ended}
+use Rattle.roster.specs.Words.{word_start}
+use Rattle.roster.proofs.Places.{met, passed, ended}
 use Rattle.roster.proofs.words.word_start.Goals as goal
 
 pub returns-then-not-is_blank : goal.returns-then-not-is_blank

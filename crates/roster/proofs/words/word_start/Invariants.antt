@@ -1,9 +1,8 @@
 -- The first place of no blank is sought.
 use Prim.Native.Nat.{◌-◌}
-use native.Mathlib.Omega.{arith}
 use lib.ListN.{length}
-use Rattle.roster.specs.Words.{ink_at, word_start}
-use Rattle.roster.proofs.Places.{Sought, begun, met, passed, ended}
+use Rattle.roster.specs.Words.{ink_at}
+use Rattle.roster.proofs.Places.{Sought}
 use Rattle.roster.proofs.words.word_start.Given as goal
 
 -- The first place of no blank is sought.

@@ -1,22 +1,13 @@
 -- The first seat whose address is taken, of those that are left, is the first of all. A seat whose low byte is not marked is not taken.
-use Prim.Native.Nat.{ℕ, pred, ◌≤◌, ◌<◌, ◌-◌, ◌+◌}
-use mathlib.Core.Path.{◌≡◌, refl, sym, ◌∙◌, ap}
-use mathlib.Core.Logic.{◌≢◌}
+use Prim.Native.Nat.{ℕ, ◌≤◌, ◌<◌, ◌-◌}
+use mathlib.Core.Path.{◌≡◌}
 use mathlib.Core.Bool.{Bool, true, false}
 use mathlib.Core.List.{List}
-use native.Mathlib.Nat.{sub-zero}
-use native.Mathlib.Omega.{arith}
-use lib.Dec.{eqb}
-use lib.ListN.{length, get_or, set, length-set}
-use lib.Seq.{get_or-set_same, get_or-set_other}
-use borrow.Author.Tests.{lt-ltb, le-ltb, eqb-true, eqb-false, not-true, not-false}
+use lib.ListN.{length, get_or}
 use Rattle.basis.specs.First.{first, first_from}
-use Rattle.basis.proofs.First.{none, here, later}
-use Rattle.basis.proofs.Tests.{clash}
 use Rattle.wire.specs.declared.address.Address.{Address}
 use Rattle.row.specs.Row.{is_taken}
 use Rattle.row.specs.Round.{name_in}
-use Rattle.row.proofs.Named.{not_taken}
 use Rattle.row.proofs.names.is_doubled.Given as goal
 
 -- The first seat whose address is taken, of those that are left, is the first of all. A seat whose low byte is not marked is not taken.

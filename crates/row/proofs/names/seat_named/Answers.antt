@@ -1,14 +1,8 @@
-use Prim.Native.Nat.{ℕ, pred, ◌≤◌, ◌-◌, ◌+◌}
+use Prim.Native.Nat.{pred, ◌-◌, ◌+◌}
 use mathlib.Core.Path.{◌≡◌, sym, ◌∙◌}
-use mathlib.Core.Bool.{Bool, true, false}
-use native.Mathlib.Nat.{sub-zero}
+use mathlib.Core.Bool.{true, false}
 use native.Mathlib.Omega.{arith}
-use mathlib.Core.List.{List}
-use borrow.Author.Rules.{rules}
-use Rattle.basis.specs.First.{first_from}
 use Rattle.basis.proofs.First.{none, here, later}
-use Rattle.wire.specs.declared.address.Address.{Address}
-use Rattle.wire.specs.Bytes.{equals}
 use Rattle.row.specs.Row.{seat_named}
 use Rattle.row.specs.Round.{name_in}
 use Rattle.row.proofs.names.seat_named.Invariants.{is_it}

@@ -1,13 +1,9 @@
 -- The first seat with the address, of those that are left, is the first of all.
-use Prim.Native.Nat.{ℕ, pred, ◌≤◌, ◌-◌, ◌+◌}
-use mathlib.Core.Path.{◌≡◌, sym, ◌∙◌}
-use mathlib.Core.Bool.{Bool, true, false}
-use native.Mathlib.Nat.{sub-zero}
-use native.Mathlib.Omega.{arith}
+use Prim.Native.Nat.{ℕ, ◌≤◌, ◌-◌}
+use mathlib.Core.Path.{◌≡◌}
+use mathlib.Core.Bool.{Bool}
 use mathlib.Core.List.{List}
-use borrow.Author.Rules.{rules}
 use Rattle.basis.specs.First.{first_from}
-use Rattle.basis.proofs.First.{none, here, later}
 use Rattle.wire.specs.declared.address.Address.{Address}
 use Rattle.wire.specs.Bytes.{equals}
 use Rattle.row.specs.Row.{seat_named}

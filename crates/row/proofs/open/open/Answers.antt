@@ -1,10 +1,8 @@
 use mathlib.Core.Path.{◌≡◌, sym, ◌∙◌}
 use mathlib.Core.Bool.{true, false}
-use borrow.Author.Rules.{rules}
 use Rattle.basis.specs.Choice.{choose}
 use Rattle.row.specs.Row.{is_row_fit}
 use Rattle.row.specs.Round.{opened}
-use Rattle.row.proofs.Fit.{fit}
 use Rattle.row.proofs.open.open.Goals as goal
 
 pub returns-then-is_row_fit : goal.returns-then-is_row_fit

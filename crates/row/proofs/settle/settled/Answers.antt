@@ -1,5 +1,4 @@
 use mathlib.Core.Path.{◌≡◌, sym, ◌∙◌}
-use borrow.Author.Rules.{rules}
 use Rattle.basis.proofs.Choice.{by}
 use Rattle.basis.proofs.Tests.{clash}
 use Rattle.row.specs.declared.progress.Progress.{Progress}

@@ -1,4 +1,3 @@
-use borrow.Author.Rules.{rules}
 use Rattle.basis.proofs.Choice.{by}
 use Rattle.basis.proofs.Tests.{clash}
 use Rattle.seating.specs.Heed.{Heed, heed_of, Heeds}

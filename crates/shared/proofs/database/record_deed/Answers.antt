@@ -1,12 +1,10 @@
 use Prim.Native.Nat.{◌+◌, ◌*◌}
 use mathlib.Core.Path.{sym}
-use native.Mathlib.Omega.{arith}
 use lib.ListN.{get_or}
 use Rattle.basis.specs.Choice.{choose}
 use Rattle.basis.proofs.Table.{missed}
 use Rattle.links.specs.Name.{place_of}
 use Rattle.shared.specs.Extended.{record_rows, record_deed}
-use borrow.Author.Rules.{rules}
 use Rattle.shared.proofs.database.record_deed.Goals as goal
 
 pub returns-in-0 : goal.returns-in-0

@@ -2,7 +2,6 @@ use native.Mathlib.Omega.{arith}
 use borrow.Author.Tests.{le-leb, lt-leb}
 use Rattle.basis.specs.Choice.{choose}
 use Rattle.module.specs.Deed.{limited}
-use borrow.Author.Rules.{rules}
 use Rattle.shared.proofs.extended.flags_deed.Goals as goal
 
 pub returns-in-0-to-15 : goal.returns-in-0-to-15

@@ -1,8 +1,5 @@
-use lib.Pow.{pow_pos}
 use borrow.Author.Tests.{eq-eqb, ne_eqb}
 use Rattle.basis.specs.Choice.{choose}
-use Rattle.basis.proofs.Flags.{part_of}
-use borrow.Author.Rules.{rules}
 use Rattle.shared.proofs.flags.clear_bit.Goals as goal
 
 pub returns-then-flags-p-eq1 : goal.returns-then-flags-p-eq1

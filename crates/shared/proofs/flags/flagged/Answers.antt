@@ -3,7 +3,6 @@ use native.Mathlib.Omega.{arith}
 use borrow.Author.Tests.{eq-eqb, ne_eqb}
 use Rattle.basis.specs.Choice.{choose}
 use Rattle.basis.specs.Flags.{flagged}
-use borrow.Author.Rules.{rules}
 use Rattle.shared.proofs.flags.flagged.Goals as goal
 
 pub returns-then-code-eq0 : goal.returns-then-code-eq0

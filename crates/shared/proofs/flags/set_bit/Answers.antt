@@ -1,12 +1,10 @@
 use mathlib.Core.Path.{◌≡◌}
 use mathlib.Core.Bool.{false}
 use native.Mathlib.Omega.{arith}
-use lib.Pow.{pow_pos}
 use borrow.Author.Tests.{eq-eqb, ne_eqb}
 use Rattle.basis.specs.Choice.{choose}
 use Rattle.basis.specs.Numbers.{is_set}
 use Rattle.basis.proofs.Flags.{room_for}
-use borrow.Author.Rules.{rules}
 use Rattle.shared.proofs.flags.set_bit.Goals as goal
 
 pub overflow_add-result : goal.overflow_add-result

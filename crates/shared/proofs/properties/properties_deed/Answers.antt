@@ -1,7 +1,6 @@
 use borrow.Author.Tests.{ne_eqb}
 use Rattle.basis.specs.Choice.{choose}
 use Rattle.shared.specs.Extended.{properties_deed}
-use borrow.Author.Rules.{rules}
 use Rattle.shared.proofs.properties.properties_deed.Goals as goal
 
 pub returns-in-0 : goal.returns-in-0

@@ -2,7 +2,6 @@ use mathlib.Core.Path.{sym}
 use Rattle.basis.specs.Choice.{choose}
 use Rattle.basis.proofs.Table.{missed}
 use Rattle.shared.specs.Extended.{property_rows, property_deed}
-use borrow.Author.Rules.{rules}
 use Rattle.shared.proofs.properties.property_deed.Goals as goal
 
 pub returns-in-4 : goal.returns-in-4

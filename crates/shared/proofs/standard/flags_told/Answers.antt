@@ -2,7 +2,6 @@ use mathlib.Core.Path.{sym}
 use Rattle.basis.specs.Choice.{choose}
 use Rattle.basis.proofs.Table.{missed}
 use Rattle.shared.specs.Standard.{flag_bytes, flags_told}
-use borrow.Author.Rules.{rules}
 use Rattle.shared.proofs.standard.flags_told.Goals as goal
 
 pub returns-in-0 : goal.returns-in-0

@@ -1,6 +1,5 @@
 -- One range, and what is outside of it.
 use native.Mathlib.Omega.{arith}
-use borrow.Author.Rules.{rules}
 use borrow.Author.Tests.{le-leb, lt-leb}
 use Rattle.basis.specs.Choice.{choose}
 use Rattle.wire.specs.Commands.{group_command_of}

@@ -1,5 +1,4 @@
 use Rattle.basis.specs.Choice.{choose}
-use borrow.Author.Rules.{rules}
 use Rattle.wire.proofs.read.command_of.Goals as goal
 
 pub returns-then-is_long : goal.returns-then-is_long

@@ -1,7 +1,6 @@
 -- A standard message has no data bytes: 00 stands for each.
 use mathlib.Core.Path.{sym}
 use native.Mathlib.Omega.{arith}
-use borrow.Author.Rules.{rules}
 use Rattle.basis.proofs.Spelled.{blank}
 use Rattle.wire.proofs.Whole.{nine}
 use Rattle.wire.proofs.read.data_of.Goals as goal

@@ -1,4 +1,3 @@
-use borrow.Author.Rules.{rules}
 use Rattle.wire.proofs.Numbered.{promised}
 use Rattle.wire.proofs.read.read.Goals as goal
 

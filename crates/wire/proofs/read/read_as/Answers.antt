@@ -1,12 +1,6 @@
 -- The three tests in the paper's order, and what each leaves to the next.
-use mathlib.Core.Path.{◌≡◌, sym, ◌∙◌}
-use mathlib.Core.Bool.{true, false}
-use borrow.Author.Rules.{rules}
-use borrow.Author.Tests.{not-true, not-false}
+use mathlib.Core.Path.{sym, ◌∙◌}
 use Rattle.basis.specs.Choice.{choose}
-use Rattle.wire.specs.Bytes.{is_whole}
-use Rattle.wire.specs.Kinds.{is_foreign}
-use Rattle.wire.specs.Checksum.{is_sum_wrong}
 use Rattle.wire.specs.Reading.{read_of}
 use Rattle.wire.proofs.Whole.{enough}
 use Rattle.wire.proofs.read.read_as.Goals as goal

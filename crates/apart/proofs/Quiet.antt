@@ -5,6 +5,7 @@ use mathlib.Core.Bool.{true}
 use mathlib.Core.List.{List, []}
 use lib.ListN.{length, take, drop}
 use borrow.Author.Tests.{le-ltb}
+use Rattle.std.specs.Prelude.{Result, Ok, Err}
 use Rattle.basis.specs.Choice.{choose}
 use Rattle.basis.proofs.Choice.{either}
 use Rattle.wire.specs.declared.command.GroupCommand.{GroupCommand}
@@ -15,7 +16,8 @@ use Rattle.wire.specs.Commands.{group_command_of}
 use Rattle.wire.specs.Kinds.{is_broadcast, is_foreign, kind_of}
 use Rattle.wire.specs.Checksum.{is_sum_wrong}
 use Rattle.wire.specs.Reading.{read_of}
-use Rattle.links.specs.declared.search.Found.{Found}
+use Rattle.links.specs.declared.memory.Link.{Link}
+use Rattle.links.specs.declared.search.Missing.{Missing}
 use Rattle.links.specs.Record.{is_fit}
 use Rattle.links.specs.Search.{search_of}
 use Rattle.links.proofs.Written.{length_kept}
@@ -43,11 +45,9 @@ deed_quiet : (deed : GroupDeed) → (broadcast_by deed).due ≡ Due.Nothing
 deed_quiet (GroupDeed.Done load) = refl
 deed_quiet GroupDeed.Unlisted = refl
 
-plan_quiet : (m : Module) (command : GroupCommand) (found : Found) → (broadcast_plan m.load command found).due ≡ Due.Nothing
-plan_quiet m command Found.NoSearch = refl
-plan_quiet m command (Found.Match link) = deed_quiet (group_deed_by m.load command link)
-plan_quiet m command Found.EndMark = refl
-plan_quiet m command Found.MemoryEnd = refl
+plan_quiet : (m : Module) (command : GroupCommand) (found : Result Link Missing) → (broadcast_plan m.load command found).due ≡ Due.Nothing
+plan_quiet m command (Ok link) = deed_quiet (group_deed_by m.load command link)
+plan_quiet m command (Err e) = refl
 
 module _ (m : Module) (l s room : List ℕ) (b : is_broadcast s ≡ true) where
   abbrev Quiet : Message → Type 0

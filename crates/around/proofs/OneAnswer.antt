@@ -122,7 +122,6 @@ each_once =
       links-is-end-mark = λ _. by_value _;
       links-up-to-mark = λ _ _ _. by_value _;
       links-search = λ _ _. by_value _;
-      links-is-found = λ _. by_value _;
       links-name-of = λ _. by_value _;
       links-place-of = λ _ _. by_value _;
       links-write = λ _ _ _. by_value _;

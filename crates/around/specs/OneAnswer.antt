@@ -1,5 +1,5 @@
 -- One answer only: two results that a public function's promise allows are equal ("What the promises have to say").
-use Rattle.std.specs.Prelude.{ℕ, ◌-◌, min, ◌≡◌, Bool, List, [], ◌∷◌, drop}
+use Rattle.std.specs.Prelude.{ℕ, ◌-◌, min, ◌≡◌, Bool, List, [], ◌∷◌, drop, Option}
 use Rattle.basis.specs.Laid.{laid, laid_if_fits}
 use Rattle.wire.specs.declared.address.Address.{Address}
 use Rattle.wire.specs.declared.request.Request.{Request}
@@ -12,13 +12,11 @@ use Rattle.wire.specs.Kinds.{heard_as}
 use Rattle.wire.specs.Reading.{heard_in, ReadPromise}
 use Rattle.links.specs.declared.memory.Link.{Link}
 use Rattle.links.specs.declared.search.Wanted.{Wanted}
-use Rattle.links.specs.declared.search.Found.{Found}
 use Rattle.links.specs.declared.search.Searched.{Searched}
-use Rattle.links.specs.declared.name.Place.{Place}
 use Rattle.links.specs.Record.{is_fit, records, record_or_blank, is_end_mark}
 use Rattle.links.specs.Name.{name_of, place_of}
 use Rattle.links.specs.Mark.{up_to_mark}
-use Rattle.links.specs.Search.{search_of, is_found}
+use Rattle.links.specs.Search.{search_of}
 use Rattle.links.specs.Write.{written_if_there}
 use Rattle.reply.specs.declared.due.ReplyType.{ReplyType}
 use Rattle.reply.specs.declared.due.Head.{Head}
@@ -134,10 +132,9 @@ pub record EachOnce : Type 0 where
   pub links-record-or-blank : (l : List ℕ) (k : ℕ) → Only (λ (r : List ℕ). r ≡ record_or_blank l k)
   pub links-is-end-mark : (r : List ℕ) → Only (λ (b : Bool). b ≡ is_end_mark r)
   pub links-up-to-mark : (l : List ℕ) (k n : ℕ) → Only (λ (r : ℕ). r ≡ up_to_mark l (min n (records l - k)) k)
-  pub links-search : (l : List ℕ) (w : Wanted) → Only (λ (r : Searched). r ≡ search_of l w)
-  pub links-is-found : (f : Found) → Only (λ (r : Bool). r ≡ is_found f)
+  pub links-search : (l : List ℕ) (w : Option Wanted) → Only (λ (r : Searched). r ≡ search_of l w)
   pub links-name-of : (k : ℕ) → Only (λ (r : ℕ). r ≡ name_of k)
-  pub links-place-of : (n address : ℕ) → Only (λ (r : Place). r ≡ place_of n address)
+  pub links-place-of : (n address : ℕ) → Only (λ (r : Option ℕ). r ≡ place_of n address)
   pub links-write : (l : List ℕ) (k : ℕ) (bytes : List ℕ) → Only (λ (after : List ℕ). after ≡ written_if_there l k bytes)
   pub reply-send : (own : Address) (l : List ℕ) (due : Due) (room : List ℕ)
       → Only (λ (d : Delivered). Sending (reply_of own l due) room d.answer d.room)

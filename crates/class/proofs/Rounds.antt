@@ -8,11 +8,12 @@ use lib.Dec.{eqb, ltb}
 use lib.ListN.{length, set, length-set, replicate}
 use lib.Seq.{get_or-set_same, get_or-set_other, set-get_or}
 use borrow.Author.Tests.{ltb-true, lt-ltb, le-ltb, eqb-true, eqb-false}
+use Rattle.std.specs.Prelude.{Ok, Err}
 use Rattle.basis.specs.Choice.{choose}
 use Rattle.wire.specs.declared.address.Address.{Address}
 use Rattle.wire.specs.declared.kind.Message.{Message}
 use Rattle.wire.specs.declared.kind.MessageKind.{MessageKind}
-use Rattle.wire.specs.declared.kind.Reading.{Reading}
+use Rattle.wire.specs.declared.kind.Unread.{Unread}
 use Rattle.wire.specs.Bytes.{no_name, to_of, named_in, data_of, is_whole}
 use Rattle.wire.specs.Kinds.{is_direct, is_broadcast, is_unheard, is_foreign, kind_of}
 use Rattle.wire.specs.Checksum.{is_sum_wrong}
@@ -176,13 +177,13 @@ module _ (row : List Module) (l s room : List ℕ) where
 
       -- ---- by what the message is read into
       abbrev spoken : Message
-      spoken = record { to = named_in s; reading = Reading.Heard (kind_of s); «data» = data_of s }
+      spoken = record { to = named_in s; reading = Ok (kind_of s); «data» = data_of s }
 
       abbrev foreign : Message
-      foreign = bare (named_in s) (Reading.Heard MessageKind.Foreign)
+      foreign = bare (named_in s) (Ok MessageKind.Foreign)
 
       abbrev said : Message
-      said = choose (is_sum_wrong s) (bare (named_in s) Reading.BadSum) spoken
+      said = choose (is_sum_wrong s) (bare (named_in s) (Err Unread.BadSum)) spoken
 
       everybody : is_broadcast s ≡ true → is_unheard s ≡ false → by_scope u (scope_of said.reading) ≡ second_round u 0 Round.All Whom.All
       unfolding choose kind_of
@@ -192,7 +193,7 @@ module _ (row : List Module) (l s room : List ℕ) where
       unfolding choose kind_of
       somebody b p = go (is_sum_wrong s) (is_direct s) refl
         where
-          go : (x d : Bool) → is_direct s ≡ d → by_scope u (scope_of (choose x (bare (named_in s) Reading.BadSum) spoken).reading) ≡ addressed u
+          go : (x d : Bool) → is_direct s ≡ d → by_scope u (scope_of (choose x (bare (named_in s) (Err Unread.BadSum)) spoken).reading) ≡ addressed u
           go true d q = refl
           go false true q = rw q
           go false false q = rw (q, some_kind s p b q)
@@ -226,7 +227,7 @@ module _ (row : List Module) (l s room : List ℕ) where
         where
           go : (b : Bool) → is_whole s ≡ b
               → From (choose b heard_so (refused_by (ClassOutcome.Single Outcome.BadLength) row l room))
-              (by_scope u (scope_of (choose b (choose (is_foreign s (named_in s)) foreign said) (bare (named_in s) Reading.BadLength)).reading))
+              (by_scope u (scope_of (choose b (choose (is_foreign s (named_in s)) foreign said) (bare (named_in s) (Err Unread.BadLength))).reading))
           go true h = hearings h
           go false h = refuses (ClassOutcome.Single Outcome.BadLength) at names
 

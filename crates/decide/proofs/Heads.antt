@@ -3,6 +3,7 @@ use Prim.Native.Nat.{ℕ}
 use mathlib.Core.Path.{◌≡◌, refl}
 use mathlib.Core.Bool.{false, ◌||◌}
 use mathlib.Core.List.{List}
+use Rattle.std.specs.Prelude.{is_ok}
 use Rattle.basis.specs.Numbers.{is_set}
 use Rattle.basis.proofs.Choice.{either}
 use Rattle.wire.specs.declared.address.Address.{Address}
@@ -17,7 +18,7 @@ use Rattle.wire.specs.Checksum.{is_sum_wrong}
 use Rattle.wire.specs.Kinds.{is_direct, is_cleanup, is_foreign, command_of, kind_of}
 use Rattle.wire.specs.Reading.{read_of}
 use Rattle.links.specs.Record.{is_fit, records}
-use Rattle.links.specs.Search.{is_found, search_of}
+use Rattle.links.specs.Search.{search_of}
 use Rattle.links.proofs.Following.{by_found}
 use Rattle.reply.specs.declared.due.ReplyType.{ReplyType}
 use Rattle.reply.specs.Message.{type_bits}
@@ -70,7 +71,7 @@ module _ (m : Module) (l d : List ℕ) where
   direct : (r : Request) (command : Command) → Answered r.hops (MessageKind.Direct r command)
   unfolding direct_plan
   direct r command =
-      either (Begun r.hops) (needs_no_link command || is_found (search_of l (wanted_of (MessageKind.Direct r command))).found)
+      either (Begun r.hops) (needs_no_link command || is_ok (search_of l (wanted_of (MessageKind.Direct r command))).found)
       (deed_begins m r (deed_of m r d (records l) command)) (opened ReplyType.Nak r _ _ refl)
 
   cleanup : (r : Request) (command : GroupCommand) → Answered r.hops (MessageKind.Cleanup r command)

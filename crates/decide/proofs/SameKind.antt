@@ -4,6 +4,7 @@ use mathlib.Core.Path.{◌≡◌, refl}
 use mathlib.Core.Bool.{Bool, ◌||◌}
 use mathlib.Core.List.{List}
 use lib.Dec.{eqb}
+use Rattle.std.specs.Prelude.{Result, Ok, Err, Option, Some, None, is_ok}
 use Rattle.basis.specs.Numbers.{within}
 use Rattle.basis.proofs.Choice.{either}
 use Rattle.basis.proofs.Table.{◌or◌, by_rows}
@@ -15,15 +16,14 @@ use Rattle.wire.specs.declared.command.Extended.{Extended}
 use Rattle.wire.specs.declared.command.Command.{Command}
 use Rattle.wire.specs.declared.command.GroupCommand.{GroupCommand}
 use Rattle.wire.specs.declared.kind.MessageKind.{MessageKind}
-use Rattle.wire.specs.declared.kind.Reading.{Reading}
+use Rattle.wire.specs.declared.kind.Unread.{Unread}
 use Rattle.wire.specs.declared.kind.Message.{Message}
 use Rattle.wire.specs.Bytes.{data_in}
 use Rattle.links.specs.declared.memory.Link.{Link}
-use Rattle.links.specs.declared.name.Place.{Place}
-use Rattle.links.specs.declared.search.Found.{Found}
+use Rattle.links.specs.declared.search.Missing.{Missing}
 use Rattle.links.specs.Record.{is_fit, records}
 use Rattle.links.specs.Name.{place_of}
-use Rattle.links.specs.Search.{is_found, search_of}
+use Rattle.links.specs.Search.{search_of}
 use Rattle.links.proofs.Following.{by_found}
 use Rattle.load.specs.declared.entry.Entry.{Entry}
 use Rattle.load.specs.declared.state.Load.{Load}
@@ -78,18 +78,18 @@ module _ (m : Module) where
         (by_rows SameDeed (data_in d 2) Deed.Unlisted (property_rows d) ((λ _. refl) or (λ _. limited-same _ _ _ _ refl) or tt) refl)
         refl
 
-    get-same : (place : Place) → SameDeed (get_deed d place)
-    get-same (Place.Record k) = refl
-    get-same Place.Illegal = refl
+    get-same : (place : Option ℕ) → SameDeed (get_deed d place)
+    get-same (Some k) = refl
+    get-same None = refl
 
-    set_same : (place : Place) → SameDeed (set_deed d place)
-    set_same (Place.Record k) = limited-same _ _ _ _ refl
-    set_same Place.Illegal = refl
+    set_same : (place : Option ℕ) → SameDeed (set_deed d place)
+    set_same (Some k) = limited-same _ _ _ _ refl
+    set_same None = refl
 
     database-same : SameDeed (database_deed r d n)
     unfolding database_deed record_deed
     database-same =
-        let place : Place = place_of n (data_in d 3 * 256 + data_in d 4) in
+        let place : Option ℕ = place_of n (data_in d 3 * 256 + data_in d 4) in
         either SameDeed (eqb r.command2 0x00)
         (by_rows SameDeed (data_in d 2) Deed.Unlisted (record_rows d place) ((λ _. get-same place) or (λ _. set_same place) or tt) refl)
         refl
@@ -113,11 +113,11 @@ module _ (m : Module) where
     by-entry command next Entry.Shared e = shared_same command
     by-entry command next Entry.Unlisted e = refl
 
-    direct-same : (command : Command) (found : Found) → Same (direct_plan m r d n command found)
+    direct-same : (command : Command) (found : Result Link Missing) → Same (direct_plan m r d n command found)
     unfolding direct_plan
     direct-same command found =
         let own : LoadEntry = entry_by m.load r d command in
-        either Same (needs_no_link command || is_found found) (by-entry command own.load own.entry (own_kind m.load r d command)) refl
+        either Same (needs_no_link command || is_ok found) (by-entry command own.load own.entry (own_kind m.load r d command)) refl
 
   grouped_same : (load : Load) (is_listed : Bool) → kind_of load ≡ kind_of m.load → SameGroup (grouped_by load is_listed)
   unfolding grouped_by
@@ -135,7 +135,7 @@ module _ (m : Module) where
   cleanup_same r (GroupDeed.Done load) e = e
   cleanup_same r GroupDeed.Unlisted e = refl
 
-  plan_same : (kind : MessageKind) (d : List ℕ) (n : ℕ) (found : Found) → Same (plan_of m kind d n found)
+  plan_same : (kind : MessageKind) (d : List ℕ) (n : ℕ) (found : Result Link Missing) → Same (plan_of m kind d n found)
   plan_same (MessageKind.Direct r command) d n found = direct-same r d n command found
   plan_same (MessageKind.Cleanup r command) d n found =
       by_found Same found _ _ (λ link. cleanup_same r (group_deed_by m.load command link) (group_same m.load command link refl)) refl
@@ -143,10 +143,10 @@ module _ (m : Module) where
       by_found Same found _ _ (λ link. broadcast_same (group_deed_by m.load command link) (group_same m.load command link refl)) refl
   plan_same MessageKind.Foreign d n found = refl
 
-  read_same : (l d : List ℕ) (reading : Reading) → Same (read_ruling m l d reading).plan
-  read_same l d (Reading.Heard kind) = plan_same kind d (records l) (search_of l (wanted_of kind)).found
-  read_same l d Reading.BadLength = refl
-  read_same l d Reading.BadSum = refl
+  read_same : (l d : List ℕ) (reading : Result MessageKind Unread) → Same (read_ruling m l d reading).plan
+  read_same l d (Ok kind) = plan_same kind d (records l) (search_of l (wanted_of kind)).found
+  read_same l d (Err Unread.BadLength) = refl
+  read_same l d (Err Unread.BadSum) = refl
 
   pub ruling_same : (l : List ℕ) (message : Message) → Same (ruling_by m l message).plan
   unfolding ruling_by

@@ -1,5 +1,5 @@
 -- Whom a message makes the module look for, and what comes of what was found ("Direct commands", "Groups").
-use Rattle.std.specs.Prelude.{ℕ, Bool, true, false, ◌||◌, List}
+use Rattle.std.specs.Prelude.{ℕ, Bool, true, false, ◌||◌, List, Result, Option, Some, None, is_ok}
 use Rattle.basis.specs.Choice.{choose}
 use Rattle.wire.specs.declared.address.Address.{Address}
 use Rattle.wire.specs.declared.request.Request.{Request}
@@ -8,8 +8,8 @@ use Rattle.wire.specs.declared.command.Command.{Command}
 use Rattle.wire.specs.declared.command.GroupCommand.{GroupCommand}
 use Rattle.wire.specs.declared.kind.MessageKind.{MessageKind}
 use Rattle.links.specs.declared.search.Wanted.{Wanted}
-use Rattle.links.specs.declared.search.Found.{Found}
-use Rattle.links.specs.Search.{is_found}
+use Rattle.links.specs.declared.memory.Link.{Link}
+use Rattle.links.specs.declared.search.Missing.{Missing}
 use Rattle.reply.specs.declared.due.ReplyType.{ReplyType}
 use Rattle.reply.specs.declared.due.Due.{Due}
 use Rattle.results.specs.declared.Outcome.{Outcome}
@@ -29,28 +29,28 @@ abbrev pub needs_no_link : Command → Bool
 needs_no_link (Command.Standard command) = is_open command
 needs_no_link (Command.Extended command) = false
 
-abbrev pub direct_wanted : Request → Command → Wanted
-direct_wanted r command = choose (needs_no_link command) Wanted.Nobody (Wanted.Sender r.from)
+abbrev pub direct_wanted : Request → Command → Option Wanted
+direct_wanted r command = choose (needs_no_link command) None (Some (Wanted.Sender r.from))
 
 -- a cleanup has its group in Command 2
-abbrev pub sender_in_group : Request → Wanted
-sender_in_group r = Wanted.Responder r.from r.command2
+abbrev pub sender_in_group : Request → Option Wanted
+sender_in_group r = Some (Wanted.Responder r.from r.command2)
 
-abbrev pub broadcast_wanted : Address → Address → GroupCommand → Wanted
-broadcast_wanted from to command = choose (is_call to command) (Wanted.Responder from to.low) Wanted.Nobody
+abbrev pub broadcast_wanted : Address → Address → GroupCommand → Option Wanted
+broadcast_wanted from to command = choose (is_call to command) (Some (Wanted.Responder from to.low)) None
 
 -- whose record the search looks for
-abbrev pub wanted_of : MessageKind → Wanted
+abbrev pub wanted_of : MessageKind → Option Wanted
 wanted_of (MessageKind.Direct r command) = direct_wanted r command
 wanted_of (MessageKind.Cleanup r command) = sender_in_group r
 wanted_of (MessageKind.Broadcast from to command) = broadcast_wanted from to command
-wanted_of MessageKind.Foreign = Wanted.Nobody
+wanted_of MessageKind.Foreign = None
 
 -- a direct command, with the data bytes beside it and n records in link memory
-unfoldable pub direct_plan : Module → Request → List ℕ → ℕ → Command → Found → Plan
-direct_plan m r d n command found = choose (needs_no_link command || is_found found) (deed_plan m r (deed_of m r d n command)) (unlinked ReplyType.Nak r)
+unfoldable pub direct_plan : Module → Request → List ℕ → ℕ → Command → Result Link Missing → Plan
+direct_plan m r d n command found = choose (needs_no_link command || is_ok found) (deed_plan m r (deed_of m r d n command)) (unlinked ReplyType.Nak r)
 
-abbrev pub plan_of : Module → MessageKind → List ℕ → ℕ → Found → Plan
+abbrev pub plan_of : Module → MessageKind → List ℕ → ℕ → Result Link Missing → Plan
 plan_of m (MessageKind.Direct r command) d n found = direct_plan m r d n command found
 plan_of m (MessageKind.Cleanup r command) d n found = cleanup_plan m.load r command found
 plan_of m (MessageKind.Broadcast from to command) d n found = broadcast_plan m.load command found

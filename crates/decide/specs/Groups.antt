@@ -1,9 +1,10 @@
 -- "Groups".
-use Rattle.std.specs.Prelude.{Bool, false, ◌&&◌, eqb}
+use Rattle.std.specs.Prelude.{Bool, false, ◌&&◌, eqb, Result}
 use Rattle.wire.specs.declared.address.Address.{Address}
 use Rattle.wire.specs.declared.request.Request.{Request}
 use Rattle.wire.specs.declared.command.GroupCommand.{GroupCommand}
-use Rattle.links.specs.declared.search.Found.{Found}
+use Rattle.links.specs.declared.memory.Link.{Link}
+use Rattle.links.specs.declared.search.Missing.{Missing}
 use Rattle.links.specs.Search.{if_found}
 use Rattle.reply.specs.declared.due.ReplyType.{ReplyType}
 use Rattle.reply.specs.declared.due.Due.{Due}
@@ -30,7 +31,7 @@ abbrev pub broadcast_by : GroupDeed → Plan
 broadcast_by (GroupDeed.Done load) = done (Change.Load load) Due.Nothing
 broadcast_by GroupDeed.Unlisted = unconcerned
 
-abbrev pub broadcast_plan : Load → GroupCommand → Found → Plan
+abbrev pub broadcast_plan : Load → GroupCommand → Result Link Missing → Plan
 broadcast_plan load command found = if_found found (λ link. broadcast_by (group_deed_by load command link)) unconcerned
 
 -- a cleanup is ACKed with both commands; no record gives 6, then Command 1 outside 11 to 14 gives 7
@@ -38,5 +39,5 @@ abbrev pub cleanup_by : Request → GroupDeed → Plan
 cleanup_by r (GroupDeed.Done load) = done (Change.Load load) (Due.Alone (headed ReplyType.CleanupAck r r.command1 r.command2))
 cleanup_by r GroupDeed.Unlisted = unlisted ReplyType.CleanupNak r
 
-abbrev pub cleanup_plan : Load → Request → GroupCommand → Found → Plan
+abbrev pub cleanup_plan : Load → Request → GroupCommand → Result Link Missing → Plan
 cleanup_plan load r command found = if_found found (λ link. cleanup_by r (group_deed_by load command link)) (unlinked ReplyType.CleanupNak r)

@@ -1,8 +1,8 @@
 -- What is decided of a message, in the order of refusals 2, 1, 3, 4, 8, 6, 7 ("Result numbers").
-use Rattle.std.specs.Prelude.{ℕ, List}
+use Rattle.std.specs.Prelude.{ℕ, List, Result, Ok, Err}
 use Rattle.basis.specs.Choice.{choose}
 use Rattle.wire.specs.declared.kind.MessageKind.{MessageKind}
-use Rattle.wire.specs.declared.kind.Reading.{Reading}
+use Rattle.wire.specs.declared.kind.Unread.{Unread}
 use Rattle.wire.specs.declared.kind.Message.{Message}
 use Rattle.wire.specs.Reading.{read_of}
 use Rattle.links.specs.declared.search.Searched.{Searched}
@@ -30,10 +30,10 @@ found_ruling m l d kind searched = record { plan = plan_of m kind d (records l) 
 abbrev pub kind_ruling : Module → List ℕ → List ℕ → MessageKind → Ruling
 kind_ruling m l d kind = found_ruling m l d kind (search_of l (wanted_of kind))
 
-abbrev pub read_ruling : Module → List ℕ → List ℕ → Reading → Ruling
-read_ruling m l d (Reading.Heard kind) = kind_ruling m l d kind
-read_ruling m l d Reading.BadLength = silence Outcome.BadLength
-read_ruling m l d Reading.BadSum = silence Outcome.BadSum
+abbrev pub read_ruling : Module → List ℕ → List ℕ → Result MessageKind Unread → Ruling
+read_ruling m l d (Ok kind) = kind_ruling m l d kind
+read_ruling m l d (Err Unread.BadLength) = silence Outcome.BadLength
+read_ruling m l d (Err Unread.BadSum) = silence Outcome.BadSum
 
 -- of a message as it was read
 unfoldable pub ruling_by : Module → List ℕ → Message → Ruling

@@ -3,7 +3,8 @@ ghost use Rattle.std.specs.Prelude.{◌≡◌};
 ghost use Rattle.decide.specs.Groups.{is_call, unconcerned, broadcast_by, broadcast_plan, cleanup_by, cleanup_plan};
 
 use crate::dispatch::group_deed_by;
-use links::search::Found;
+use links::memory::Link;
+use links::search::Missing;
 use load::state::Load;
 use module::change::Change;
 use module::deed::GroupDeed;
@@ -25,14 +26,12 @@ pub(crate) fn is_call(to: Address, command: GroupCommand) -> bool
     }
 }
 
-pub(crate) fn broadcast_plan(load: Load, command: GroupCommand, found: Found) -> Plan
+pub(crate) fn broadcast_plan(load: Load, command: GroupCommand, found: Result<Link, Missing>) -> Plan
     ensures { result ≡ broadcast_plan load command found }
 {
     match found {
-        Found::NoSearch => unconcerned(),
-        Found::Match(link) => broadcast_by(group_deed_by(load, command, link)),
-        Found::EndMark => unconcerned(),
-        Found::MemoryEnd => unconcerned(),
+        Ok(link) => broadcast_by(group_deed_by(load, command, link)),
+        Err(_) => unconcerned(),
     }
 }
 
@@ -52,14 +51,12 @@ fn unconcerned() -> Plan
     refused(Outcome::Unconcerned, Due::Nothing)
 }
 
-pub(crate) fn cleanup_plan(load: Load, r: Request, command: GroupCommand, found: Found) -> Plan
+pub(crate) fn cleanup_plan(load: Load, r: Request, command: GroupCommand, found: Result<Link, Missing>) -> Plan
     ensures { result ≡ cleanup_plan load r command found }
 {
     match found {
-        Found::NoSearch => unlinked(ReplyType::CleanupNak, r),
-        Found::Match(link) => cleanup_by(r, group_deed_by(load, command, link)),
-        Found::EndMark => unlinked(ReplyType::CleanupNak, r),
-        Found::MemoryEnd => unlinked(ReplyType::CleanupNak, r),
+        Ok(link) => cleanup_by(r, group_deed_by(load, command, link)),
+        Err(_) => unlinked(ReplyType::CleanupNak, r),
     }
 }
 

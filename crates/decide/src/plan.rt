@@ -4,7 +4,8 @@ ghost use Rattle.decide.specs.Decide.{is_open, needs_no_link, direct_wanted, sen
 
 use crate::dispatch::deed_of;
 use crate::groups::{broadcast_plan, cleanup_plan, is_call};
-use links::search::{Found, Wanted, is_found};
+use links::memory::Link;
+use links::search::{Missing, Wanted};
 use module::plan::{Plan, deed_plan, refused, unlinked};
 use module::state::Module;
 use reply::due::{Due, ReplyType};
@@ -15,43 +16,43 @@ use wire::kind::MessageKind;
 use wire::request::Request;
 
 // Whose record the search is to look for.
-pub(crate) fn wanted_of(kind: MessageKind) -> Wanted
+pub(crate) fn wanted_of(kind: MessageKind) -> Option<Wanted>
     ensures { result ≡ wanted_of kind }
 {
     match kind {
         MessageKind::Direct(r, command) => direct_wanted(r, command),
         MessageKind::Cleanup(r, _) => sender_in_group(r),
         MessageKind::Broadcast(from, to, command) => broadcast_wanted(from, to, command),
-        MessageKind::Foreign => Wanted::Nobody,
+        MessageKind::Foreign => None,
     }
 }
 
-fn direct_wanted(r: Request, command: Command) -> Wanted
+fn direct_wanted(r: Request, command: Command) -> Option<Wanted>
     ensures { result ≡ direct_wanted r command }
 {
     let from = r.from;
     if needs_no_link(command) {
-        Wanted::Nobody
+        None
     } else {
-        Wanted::Sender(from)
+        Some(Wanted::Sender(from))
     }
 }
 
 // A cleanup has its group in Command 2.
-fn sender_in_group(r: Request) -> Wanted
+fn sender_in_group(r: Request) -> Option<Wanted>
     ensures { result ≡ sender_in_group r }
 {
     let from = r.from;
-    Wanted::Responder(from, r.command2)
+    Some(Wanted::Responder(from, r.command2))
 }
 
-fn broadcast_wanted(from: Address, to: Address, command: GroupCommand) -> Wanted
+fn broadcast_wanted(from: Address, to: Address, command: GroupCommand) -> Option<Wanted>
     ensures { result ≡ broadcast_wanted from to command }
 {
     if is_call(to, command) {
-        Wanted::Responder(from, to.low)
+        Some(Wanted::Responder(from, to.low))
     } else {
-        Wanted::Nobody
+        None
     }
 }
 
@@ -81,7 +82,7 @@ pub(crate) fn plan_of(
     kind: MessageKind,
     data: [u8; 14],
     records: usize,
-    found: Found,
+    found: Result<Link, Missing>,
 ) -> Plan
     ensures { result ≡ plan_of m kind «data» records found }
 {
@@ -100,12 +101,12 @@ fn direct_plan(
     data: [u8; 14],
     records: usize,
     command: Command,
-    found: Found,
+    found: Result<Link, Missing>,
 ) -> Plan
     ensures { result ≡ direct_plan m r «data» records command found }
 {
     // One call, as the search has: a compiler then keeps the plan in registers.
-    if needs_no_link(command) | is_found(found) {
+    if needs_no_link(command) | found.is_ok() {
         let deed = deed_of(m, r, data, records, command);
         return deed_plan(m, r, deed);
     }

@@ -9,7 +9,7 @@ use module::plan::{Plan, refused};
 use module::state::Module;
 use reply::due::Due;
 use results::Outcome;
-use wire::kind::{Message, MessageKind, Reading};
+use wire::kind::{Message, MessageKind, Unread};
 
 // The plan, and how many records were read for it.
 #[derive(Clone, Copy)]
@@ -34,9 +34,9 @@ fn read_ruling(m: Module, links: &[u8], message: Message) -> Ruling
     let reading = message.reading;
     let data = message.data;
     match reading {
-        Reading::Heard(kind) => kind_ruling(m, links, kind, data),
-        Reading::BadLength => silence(Outcome::BadLength),
-        Reading::BadSum => silence(Outcome::BadSum),
+        Ok(kind) => kind_ruling(m, links, kind, data),
+        Err(Unread::BadLength) => silence(Outcome::BadLength),
+        Err(Unread::BadSum) => silence(Outcome::BadSum),
     }
 }
 

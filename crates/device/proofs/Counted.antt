@@ -7,15 +7,17 @@ use native.Mathlib.Omega.{arith}
 use lib.Dec.{eqb, leb, ltb}
 use lib.ListN.{length}
 use borrow.Author.Tests.{ltb-true, leb-true}
+use Rattle.std.specs.Prelude.{Option, Some, None, Result, Ok, Err}
 use Rattle.basis.specs.Numbers.{within}
 use Rattle.basis.proofs.Choice.{either, by}
 use Rattle.basis.proofs.Tests.{both}
 use Rattle.wire.specs.declared.kind.Message.{Message}
-use Rattle.wire.specs.declared.kind.Reading.{Reading}
+use Rattle.wire.specs.declared.kind.MessageKind.{MessageKind}
+use Rattle.wire.specs.declared.kind.Unread.{Unread}
 use Rattle.links.specs.declared.search.Searched.{Searched}
 use Rattle.links.specs.declared.search.Wanted.{Wanted}
 use Rattle.links.specs.Record.{is_fit, records, record_at, is_end_mark}
-use Rattle.links.specs.Search.{stop_of, stopped_at, is_sought, search_of}
+use Rattle.links.specs.Search.{stop_of, stopped_at, search_of}
 use Rattle.reply.specs.Reply.{reply_of}
 use Rattle.module.specs.declared.state.Module.{Module}
 use Rattle.decide.specs.declared.rule.Ruling.{Ruling}
@@ -32,13 +34,14 @@ module _ (m : Module) (l : List ℕ) where
       either (λ (x : Searched). x.read ≤ records l) (is_end_mark (record_at l k)) (omega (arith, here)) (omega (arith, here)))
       (λ q. omega arith)
 
-  searched : (w : Wanted) → (search_of l w).read ≤ records l
-  searched w = either (λ (x : Searched). x.read ≤ records l) (is_sought w) (stopped (stop_of l w)) (omega arith)
+  searched : (w : Option Wanted) → (search_of l w).read ≤ records l
+  searched (Some w) = stopped (stop_of l w)
+  searched None = omega arith
 
-  ruled : (d : List ℕ) (r : Reading) → (read_ruling m l d r).read ≤ records l
-  ruled d (Reading.Heard kind) = searched (wanted_of kind)
-  ruled d Reading.BadLength = omega arith
-  ruled d Reading.BadSum = omega arith
+  ruled : (d : List ℕ) (r : Result MessageKind Unread) → (read_ruling m l d r).read ≤ records l
+  ruled d (Ok kind) = searched (wanted_of kind)
+  ruled d (Err Unread.BadLength) = omega arith
+  ruled d (Err Unread.BadSum) = omega arith
 
   few : is_fit l ≡ true → length l ≤ 2048
   few q = leb-true (length l) 2048 (both (leb 1 (length l)) (leb (length l) 2048) (both (within 1 2048 (length l)) (eqb (length l % 8) 0) q).0).1

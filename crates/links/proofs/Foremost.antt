@@ -5,16 +5,18 @@ use mathlib.Core.Bool.{Bool, true, false}
 use mathlib.Core.List.{List, [], ◌∷◌}
 use native.Mathlib.Omega.{arith}
 use lib.ListN.{get_or}
+use Rattle.std.specs.Prelude.{Option, Some, None, Result, Ok, Err, is_ok}
 use Rattle.basis.specs.Choice.{choose}
 use Rattle.basis.specs.First.{first_from}
 use Rattle.basis.proofs.First.{none, here, later}
 use Rattle.basis.proofs.Tests.{clash}
 use Rattle.links.specs.declared.memory.Link.{Link}
 use Rattle.links.specs.declared.search.Wanted.{Wanted}
-use Rattle.links.specs.declared.search.Found.{Found}
+use Rattle.links.specs.declared.search.Missing.{Missing}
 use Rattle.links.specs.Record.{records, record_at, link_of, is_in_use, is_end_mark}
-use Rattle.links.specs.Search.{answers, settles_at, stop_of, stopped_at, is_sought, search_of, if_found, is_found}
+use Rattle.links.specs.Search.{answers, settles_at, stop_of, stopped_at, search_of, if_found}
 use Rattle.links.specs.LiveList.{live_from, live_list, FirstWanted, NoneWanted, SearchesFindFirst, SameFound, in_both, in-neither, FoundByList}
+use Rattle.links.proofs.Following.{told_by}
 use Rattle.links.proofs.Stop.{at_memory_end, at_end_mark, at_match}
 
 -- what follows from the first record of a list that is looked for, or from none
@@ -60,9 +62,9 @@ module _ {A : Type 0} (w : Wanted) (then : Link → A) (otherwise : A) where
             let unsettled : settles_at l w k ≡ false = rw (p, q) in
             rw (later (settles_at l w) (suc n) k (omega arith) unsettled, p, q) ih
 
-    searched : is_sought w ≡ true → if_found (search_of l w).found then otherwise ≡ pick w then otherwise (live_list l)
-    unfolding stop_of choose
-    searched s = rw s (agree (records l) 0 (omega arith))
+    searched : if_found (search_of l (Some w)).found then otherwise ≡ pick w then otherwise (live_list l)
+    unfolding stop_of
+    searched = agree (records l) 0 (omega arith)
 
 -- a list of which nothing follows has none that is looked for
 unpicked : (w : Wanted) (rs : List (List ℕ)) → pick w (λ link. true) false rs ≡ false → NoneWanted w rs
@@ -77,37 +79,29 @@ unpicked w (r ∷ rs) e j h = go (answers w r) refl e (unpicked w rs) j h
     go false q f ih (suc j) h = ih f j (omega arith)
 
 -- a link that follows from what was found was found
-found_link : (f : Found) (link : Link) → if_found f Found.Match Found.NoSearch ≡ Found.Match link → f ≡ Found.Match link
-found_link Found.NoSearch link e = absurd (let z : ◌≡◌ {A = ℕ} 0 1 = cc in omega arith)
-found_link (Found.Match other) link e = e
-found_link Found.EndMark link e = absurd (let z : ◌≡◌ {A = ℕ} 0 1 = cc in omega arith)
-found_link Found.MemoryEnd link e = absurd (let z : ◌≡◌ {A = ℕ} 0 1 = cc in omega arith)
+found_link : (f : Result Link Missing) (link : Link) → if_found f Ok (Err Missing.NoSearch) ≡ Ok link → f ≡ Ok link
+found_link (Ok other) link e = e
+found_link (Err missing) link e = absurd (let z : ◌≡◌ {A = ℕ} 0 1 = cc in omega arith)
 
 pub finds_first : SearchesFindFirst
-finds_first l w s =
+finds_first l w =
     record {
-      first_found = λ i f. found_link _ _ (searched w Found.Match Found.NoSearch l s ∙ pick_first w Found.Match Found.NoSearch (live_list l) i f);
+      first_found = λ i f. found_link _ _ (searched w Ok (Err Missing.NoSearch) l ∙ pick_first w Ok (Err Missing.NoSearch) (live_list l) i f);
       none_found = (λ e. unpicked w (live_list l) (sym is ∙ e), λ n. is ∙ pick_none w (λ link. true) false (live_list l) n);
     }
   where
-    is : is_found (search_of l w).found ≡ pick w (λ link. true) false (live_list l)
-    is = searched w (λ link. true) false l s
+    is : is_ok (search_of l (Some w)).found ≡ pick w (λ link. true) false (live_list l)
+    is = told_by (search_of l (Some w)).found ∙ searched w (λ link. true) false l
 
 -- of two memories with one list of live records the same follows
-pub same_follows : {A : Type 0} (l m : List ℕ) (w : Wanted) (then : Link → A) (otherwise : A) → live_list l ≡ live_list m
+pub same_follows : {A : Type 0} (l m : List ℕ) (w : Option Wanted) (then : Link → A) (otherwise : A) → live_list l ≡ live_list m
     → if_found (search_of l w).found then otherwise ≡ if_found (search_of m w).found then otherwise
-unfolding choose
-same_follows l m w then otherwise e = go (is_sought w) refl
-  where
-    go : (b : Bool) → is_sought w ≡ b → if_found (search_of l w).found then otherwise ≡ if_found (search_of m w).found then otherwise
-    go true s = searched w then otherwise l s ∙ ap (pick w then otherwise) e ∙ sym (searched w then otherwise m s)
-    go false s = rw s
+same_follows l m (Some w) then otherwise e = searched w then otherwise l ∙ ap (pick w then otherwise) e ∙ sym (searched w then otherwise m)
+same_follows l m None then otherwise e = refl
 
 pub found_by_list : FoundByList
-found_by_list l m w e = go (search_of l w).found (search_of m w).found (same_follows l m w Found.Match Found.NoSearch e) (same_follows l m w (λ link. true) false e)
+found_by_list l m w e = go (search_of l w).found (search_of m w).found (same_follows l m w Ok (Err Missing.NoSearch) e) (same_follows l m w (λ link. true) false e)
   where
-    go : (f g : Found) → if_found f Found.Match Found.NoSearch ≡ if_found g Found.Match Found.NoSearch → is_found f ≡ is_found g → SameFound f g
-    go Found.NoSearch g p q = in-neither Found.NoSearch g refl (sym q)
-    go (Found.Match link) g p q = subst (SameFound (Found.Match link)) (sym (found_link g link (sym p))) (in_both link)
-    go Found.EndMark g p q = in-neither Found.EndMark g refl (sym q)
-    go Found.MemoryEnd g p q = in-neither Found.MemoryEnd g refl (sym q)
+    go : (f g : Result Link Missing) → if_found f Ok (Err Missing.NoSearch) ≡ if_found g Ok (Err Missing.NoSearch) → if_found f (λ link. true) false ≡ if_found g (λ link. true) false → SameFound f g
+    go (Ok link) g p q = subst (SameFound (Ok link)) (sym (found_link g link (sym p))) (in_both link)
+    go (Err e) g p q = in-neither (Err e) g refl (told_by g ∙ sym q)

@@ -4,14 +4,14 @@ use mathlib.Core.Path.{◌≡◌, refl}
 use native.Mathlib.Omega.{arith}
 use lib.Dec.{ltb}
 use borrow.Author.Tests.{eq-eqb, ne_eqb, lt-ltb, le-ltb, eqb-true}
+use Rattle.std.specs.Prelude.{Some, None}
 use Rattle.basis.specs.Choice.{choose}
 use Rattle.basis.specs.First.{first_from}
 use Rattle.basis.proofs.First.{Told, at, nowhere, told, unique}
-use Rattle.links.specs.declared.name.Place.{Place}
 use Rattle.links.specs.Name.{name_of, meant, names, place_of}
 
 module _ (n address : ℕ) where
-  pub legal : (k : ℕ) → k < n → meant address + 8 * k ≡ 0x0fff → place_of n address ≡ Place.Record k
+  pub legal : (k : ℕ) → k < n → meant address + 8 * k ≡ 0x0fff → place_of n address ≡ Some k
   unfolding place_of choose
   legal k h e = rw (it, lt-ltb k n h)
     where
@@ -20,27 +20,27 @@ module _ (n address : ℕ) where
           unique (names (meant address)) n 0 k
           (record { from = omega arith; inside = omega arith; holds = eq-eqb _ 0x0fff e; before = λ j a b. ne_eqb (meant address + 8 * j) 0x0fff (omega arith) })
 
-  pub illegal : ((k : ℕ) → k < n → meant address + 8 * k ≡ 0x0fff → ⊥) → place_of n address ≡ Place.Illegal
+  pub illegal : ((k : ℕ) → k < n → meant address + 8 * k ≡ 0x0fff → ⊥) → place_of n address ≡ None
   unfolding place_of choose
   illegal h = go (first_from (names (meant address)) n 0) (told (names (meant address)) n 0)
     where
-      go : (k : ℕ) → Told (names (meant address)) n 0 k → choose (ltb k n) (Place.Record k) Place.Illegal ≡ Place.Illegal
+      go : (k : ℕ) → Told (names (meant address)) n 0 k → choose (ltb k n) (Some k) None ≡ None
       go k (at a) = absurd (h k (omega (arith, a.inside)) (eqb-true (meant address + 8 * k) 0x0fff a.holds))
       go k (nowhere w) = rw (le-ltb k n (omega (arith, w.behind)))
 
 -- an address that names a record means that record's name
-pub named : (n address k : ℕ) → place_of n address ≡ Place.Record k → (k < n) × (meant address + 8 * k ≡ 0x0fff)
+pub named : (n address k : ℕ) → place_of n address ≡ Some k → (k < n) × (meant address + 8 * k ≡ 0x0fff)
 unfolding place_of choose
 named n address k e = go (first_from (names (meant address)) n 0) (told (names (meant address)) n 0) e
   where
-    go : (j : ℕ) → Told (names (meant address)) n 0 j → choose (ltb j n) (Place.Record j) Place.Illegal ≡ Place.Record k
+    go : (j : ℕ) → Told (names (meant address)) n 0 j → choose (ltb j n) (Some j) None ≡ Some k
         → (k < n) × (meant address + 8 * k ≡ 0x0fff)
     go j (at a) q =
-        let there : Place.Record j ≡ Place.Record k = rw (lt-ltb j n (omega (arith, a.inside))) at q in
+        let there : Some j ≡ Some k = rw (lt-ltb j n (omega (arith, a.inside))) at q in
         let same : j ≡ k = cc in
         (omega (arith, a.inside), rw same at (eqb-true (meant address + 8 * j) 0x0fff a.holds))
     go j (nowhere w) q =
-        let gone : Place.Illegal ≡ Place.Record k = rw (le-ltb j n (omega (arith, w.behind))) at q in
+        let gone : None ≡ Some k = rw (le-ltb j n (omega (arith, w.behind))) at q in
         absurd (let z : ◌≡◌ {A = ℕ} 0 1 = cc in omega arith)
 
 -- 0000 means 0FFF, and any other address itself
@@ -58,5 +58,5 @@ unfolding place_of meant choose
 first_named n = refl
 
 -- the name that a record is sent with names it
-pub own_name : (n k : ℕ) → k < n → k < 512 → place_of n (name_of k) ≡ Place.Record k
+pub own_name : (n k : ℕ) → k < n → k < 512 → place_of n (name_of k) ≡ Some k
 own_name n k h g = legal n (name_of k) k h (rw (itself (name_of k) (omega arith)) (omega arith))

@@ -7,12 +7,12 @@ use native.Mathlib.Omega.{arith}
 use lib.Dec.{ltb}
 use borrow.Author.Tests.{ltb-true, ltb-false}
 use Rattle.basis.proofs.Tests.{clash, both, neither}
+use Rattle.std.specs.Prelude.{Some}
 use Rattle.basis.specs.First.{first_from}
 use Rattle.basis.proofs.First.{Told, at, nowhere, told}
-use Rattle.basis.specs.Choice.{choose}
 use Rattle.links.specs.declared.search.Wanted.{Wanted}
 use Rattle.links.specs.Record.{records, record_at, is_in_use, is_end_mark}
-use Rattle.links.specs.Search.{matches, settles_at, stop_of, stopped_at, walk_of, is_sought, search_of}
+use Rattle.links.specs.Search.{matches, settles_at, stop_of, stopped_at, search_of}
 use Rattle.links.specs.Settled.{LiveMatch, Settled, matched, ended, exhausted}
 use Rattle.links.proofs.Stop.{at_memory_end, at_end_mark, at_match}
 
@@ -49,9 +49,10 @@ module _ (l : List ℕ) (w : Wanted) where
           let m = both (is_in_use (record_at l k)) _ (rw e at s) in
           rw (at_match l k i e) (matched k (record { live = record { inside = i; used = m.0; unmarked = e; before = unmarked_before k h }; wanted = m.1 }) (none_before k h))
 
-  settled_walk : Settled l w (walk_of l w)
+  -- a search that is made is settled so
+  pub settled : Settled l w (search_of l (Some w))
   unfolding stop_of
-  settled_walk = go (first_from (settles_at l w) (records l) 0) (told (settles_at l w) (records l) 0)
+  settled = go (first_from (settles_at l w) (records l) 0) (told (settles_at l w) (records l) 0)
     where
       go : (k : ℕ) → Told (settles_at l w) (records l) 0 k → Settled l w (stopped_at l k)
       go k (at a) = here k (omega (arith, a.inside)) a.holds (λ j g. a.before j (omega arith) g)
@@ -60,7 +61,3 @@ module _ (l : List ℕ) (w : Wanted) where
           rw (at_memory_end l k (omega (arith, n.behind)))
           (exhausted (unmarked_before (records l) all) (λ j m. none_before (records l) all j m.live.inside m))
 
-  -- a search that is made is settled so
-  pub settled : is_sought w ≡ true → Settled l w (search_of l w)
-  unfolding choose
-  settled e = rw e settled_walk

@@ -1,13 +1,13 @@
 -- The live records in order, and what a search finds among them ("Link memory").
-use Rattle.std.specs.Prelude.{ℕ, zero, suc, ◌+◌, ◌<◌, ◌≡◌, true, false, List, [], ◌∷◌, map, ◌↔◌, length, get_or}
+use Rattle.std.specs.Prelude.{ℕ, zero, suc, ◌+◌, ◌<◌, ◌≡◌, true, false, List, [], ◌∷◌, map, ◌↔◌, length, get_or, Option, Some, Result, Ok, is_ok}
 use Rattle.basis.specs.Choice.{choose}
 use Rattle.wire.specs.declared.address.Address.{Address}
 use Rattle.links.specs.declared.memory.Link.{Link}
 use Rattle.links.specs.declared.search.Wanted.{Wanted}
-use Rattle.links.specs.declared.search.Found.{Found}
+use Rattle.links.specs.declared.search.Missing.{Missing}
 use Rattle.links.specs.Record.{records, record_at, link_of, is_in_use, is_end_mark, bears}
 use Rattle.links.specs.Live.{Live, Linked}
-use Rattle.links.specs.Search.{answers, is_sought, search_of, is_found}
+use Rattle.links.specs.Search.{answers, search_of}
 
 -- of the n records from place k on, by what stands at each place: those in use, up to the first end mark; without one, up to the end
 unfoldable pub live_from : (ℕ → List ℕ) → ℕ → ℕ → List (List ℕ)
@@ -52,20 +52,20 @@ NoneWanted w rs = (j : ℕ) → j < length rs → answers w (get_or rs j []) ≡
 
 -- the first live record that is looked for is found, and no match exactly where there is none
 pub record FindsFirst (l : List ℕ) (w : Wanted) : Type 0 where
-  pub first_found : (i : ℕ) → FirstWanted w (live_list l) i → (search_of l w).found ≡ Found.Match (link_of (get_or (live_list l) i []))
-  pub none_found : is_found (search_of l w).found ≡ false ↔ NoneWanted w (live_list l)
+  pub first_found : (i : ℕ) → FirstWanted w (live_list l) i → (search_of l (Some w)).found ≡ Ok (link_of (get_or (live_list l) i []))
+  pub none_found : is_ok (search_of l (Some w)).found ≡ false ↔ NoneWanted w (live_list l)
 
 abbrev pub SearchesFindFirst : Type 0
-SearchesFindFirst = (l : List ℕ) (w : Wanted) → is_sought w ≡ true → FindsFirst l w
+SearchesFindFirst = (l : List ℕ) (w : Wanted) → FindsFirst l w
 
 -- a match in both, of one link, or in neither
-pub data SameFound : Found → Found → Type 0 where
-  in_both : (link : Link) → SameFound (Found.Match link) (Found.Match link)
-  in-neither : (f g : Found) → is_found f ≡ false → is_found g ≡ false → SameFound f g
+pub data SameFound : Result Link Missing → Result Link Missing → Type 0 where
+  in_both : (link : Link) → SameFound (Ok link) (Ok link)
+  in-neither : (f g : Result Link Missing) → is_ok f ≡ false → is_ok g ≡ false → SameFound f g
 
 -- what is found, the count aside, goes by the live records alone
 abbrev pub FoundByList : Type 0
-FoundByList = (l m : List ℕ) (w : Wanted) → live_list l ≡ live_list m → SameFound (search_of l w).found (search_of m w).found
+FoundByList = (l m : List ℕ) (w : Option Wanted) → live_list l ≡ live_list m → SameFound (search_of l w).found (search_of m w).found
 
 -- one of these records bears the address
 pub record SomeBears (rs : List (List ℕ)) (a : Address) : Type 0 where

@@ -1,8 +1,7 @@
 -- Names of records on the wire ("Link memory").
-use Rattle.std.specs.Prelude.{ℕ, ◌+◌, ◌-◌, ◌*◌, Bool, eqb, ltb}
+use Rattle.std.specs.Prelude.{ℕ, ◌+◌, ◌-◌, ◌*◌, Bool, eqb, ltb, Option, Some, None}
 use Rattle.basis.specs.Choice.{choose}
 use Rattle.basis.specs.First.{first}
-use Rattle.links.specs.declared.name.Place.{Place}
 
 -- the address that record k is shown by
 abbrev pub name_of : ℕ → ℕ
@@ -17,7 +16,7 @@ abbrev pub names : ℕ → ℕ → Bool
 names name k = eqb (name + 8 * k) 0x0fff
 
 -- the record, of n, that an address names; any other address is illegal
-unfoldable pub place_of : ℕ → ℕ → Place
+unfoldable pub place_of : ℕ → ℕ → Option ℕ
 place_of n address =
     let k : ℕ = first (names (meant address)) n in
-    choose (ltb k n) (Place.Record k) Place.Illegal
+    choose (ltb k n) (Some k) None

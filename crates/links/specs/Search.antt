@@ -1,16 +1,15 @@
 -- The search, and the number of records read ("Link memory").
-use Rattle.std.specs.Prelude.{ℕ, ◌+◌, Bool, true, false, ◌&&◌, ◌||◌, List, eqb, ltb}
+use Rattle.std.specs.Prelude.{ℕ, ◌+◌, Bool, ◌&&◌, ◌||◌, List, eqb, ltb, Option, Some, None, Result, Ok, Err}
 use Rattle.basis.specs.Choice.{choose}
 use Rattle.basis.specs.First.{first}
 use Rattle.links.specs.declared.memory.Link.{Link}
 use Rattle.links.specs.declared.search.Wanted.{Wanted}
-use Rattle.links.specs.declared.search.Found.{Found}
+use Rattle.links.specs.declared.search.Missing.{Missing}
 use Rattle.links.specs.declared.search.Searched.{Searched}
 use Rattle.links.specs.Record.{records, record_at, link_of, is_in_use, is_responder, is_end_mark, bears}
 
 -- a record that is looked for
 abbrev pub answers : Wanted → List ℕ → Bool
-answers Wanted.Nobody r = false
 answers (Wanted.Sender a) r = bears r a
 answers (Wanted.Responder a g) r = bears r a && is_responder r && eqb (link_of r).group g
 
@@ -32,31 +31,22 @@ stop_of l w = first (settles_at l w) (records l)
 abbrev pub stopped_at : List ℕ → ℕ → Searched
 stopped_at l k =
     choose (ltb k (records l))
-    (choose (is_end_mark (record_at l k)) (record { read = k + 1; found = Found.EndMark }) (record { read = k + 1; found = Found.Match (link_of (record_at l k)) }))
-    (record { read = records l; found = Found.MemoryEnd })
+    (choose (is_end_mark (record_at l k)) (record { read = k + 1; found = Err Missing.EndMark }) (record { read = k + 1; found = Ok (link_of (record_at l k)) }))
+    (record { read = records l; found = Err Missing.MemoryEnd })
 
 abbrev pub walk_of : List ℕ → Wanted → Searched
 walk_of l w = stopped_at l (stop_of l w)
 
--- a search is made for somebody
-abbrev pub is_sought : Wanted → Bool
-is_sought Wanted.Nobody = false
-is_sought (Wanted.Sender a) = true
-is_sought (Wanted.Responder a g) = true
-
 -- 0 where no search is made
 abbrev pub unsearched : Searched
-unsearched = record { read = 0; found = Found.NoSearch }
+unsearched = record { read = 0; found = Err Missing.NoSearch }
 
-abbrev pub search_of : List ℕ → Wanted → Searched
-search_of l w = choose (is_sought w) (walk_of l w) unsearched
+-- a search is made for somebody
+abbrev pub search_of : List ℕ → Option Wanted → Searched
+search_of l (Some w) = walk_of l w
+search_of l None = unsearched
 
 -- what follows from the record found, or from none
-abbrev pub if_found : {A : Type 0} → Found → (Link → A) → A → A
-if_found Found.NoSearch then none = none
-if_found (Found.Match link) then none = then link
-if_found Found.EndMark then none = none
-if_found Found.MemoryEnd then none = none
-
-abbrev pub is_found : Found → Bool
-is_found found = if_found found (λ link. true) false
+abbrev pub if_found : {A : Type 0} → Result Link Missing → (Link → A) → A → A
+if_found (Ok link) then none = then link
+if_found (Err e) then none = none

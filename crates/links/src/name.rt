@@ -2,12 +2,6 @@
 ghost use Rattle.std.specs.Prelude.{◌≡◌};
 ghost use Rattle.links.specs.Name.{name_of, meant, place_of};
 
-#[derive(Clone, Copy)]
-pub enum Place {
-    Record(usize),
-    Illegal,
-}
-
 // The address that record `k` is shown by, or 0 where there is none.
 pub fn name_of(k: usize) -> usize
     ensures { result ≡ name_of k }
@@ -15,23 +9,23 @@ pub fn name_of(k: usize) -> usize
     if 511 < k { 0 } else { 0x0fff - 8 * k }
 }
 
-// What an address names in a link memory of so many records.
-pub fn place_of(records: usize, address: usize) -> Place
+// The record that an address names in a link memory of so many records; any other address is illegal.
+pub fn place_of(records: usize, address: usize) -> Option<usize>
     ensures { result ≡ place_of records address }
 {
     let name = meant(address);
     if 0x0fff < name {
-        return Place::Illegal;
+        return None;
     }
     let below = 0x0fff - name;
     if below % 8 != 0 {
-        return Place::Illegal;
+        return None;
     }
     let k = below / 8;
     if k < records {
-        Place::Record(k)
+        Some(k)
     } else {
-        Place::Illegal
+        None
     }
 }
 

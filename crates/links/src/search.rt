@@ -1,6 +1,6 @@
 // The search for a record, which ends at the first record that settles it ("Link memory").
 ghost use Rattle.std.specs.Prelude.{◌≡◌};
-ghost use Rattle.links.specs.Search.{answers, matches, is_sought, walk_of, search_of, is_found};
+ghost use Rattle.links.specs.Search.{answers, matches, walk_of, search_of};
 
 use crate::memory::{Link, bears, is_end_mark, is_in_use, is_responder, link_of, record_at};
 use wire::address::Address;
@@ -8,51 +8,38 @@ use wire::address::Address;
 // Whose record a search looks for.
 #[derive(Clone, Copy)]
 pub enum Wanted {
-    // No search is made.
-    Nobody,
     // Any live record of a sender.
     Sender(Address),
     // A live responder record of a sender and a group.
     Responder(Address, u8),
 }
 
-// What settled a search.
+// Why no record was found.
 #[derive(Clone, Copy)]
-pub enum Found {
+pub enum Missing {
     NoSearch,
-    Match(Link),
     EndMark,
     MemoryEnd,
 }
 
-// That, and the number of records read.
+// What was found, and the number of records read.
 #[derive(Clone, Copy)]
 pub struct Searched {
     pub read: usize,
-    pub found: Found,
+    pub found: Result<Link, Missing>,
 }
 
-pub fn search(links: &[u8], wanted: Wanted) -> Searched
+// A search is made for somebody.
+pub fn search(links: &[u8], wanted: Option<Wanted>) -> Searched
     ensures { result ≡ search_of links.now wanted }
 {
     // The walk is called at one place only, so that a compiler can keep what it looks for, and what it finds, in registers.
-    if is_sought(wanted) {
-        return walk(links, wanted);
-    }
-    Searched {
-        read: 0,
-        found: Found::NoSearch,
-    }
-}
-
-// A search is made.
-fn is_sought(wanted: Wanted) -> bool
-    ensures { result ≡ is_sought wanted }
-{
     match wanted {
-        Wanted::Nobody => false,
-        Wanted::Sender(_) => true,
-        Wanted::Responder(_, _) => true,
+        Some(wanted) => walk(links, wanted),
+        None => Searched {
+            read: 0,
+            found: Err(Missing::NoSearch),
+        },
     }
 }
 
@@ -66,21 +53,21 @@ fn walk(links: &[u8], wanted: Wanted) -> Searched
         if i == n {
             break Searched {
                 read: n,
-                found: Found::MemoryEnd,
+                found: Err(Missing::MemoryEnd),
             };
         }
         let record = record_at(links, i);
         if is_end_mark(record) {
             break Searched {
                 read: i + 1,
-                found: Found::EndMark,
+                found: Err(Missing::EndMark),
             };
         }
         if matches(record, wanted) {
             let link = link_of(record);
             break Searched {
                 read: i + 1,
-                found: Found::Match(link),
+                found: Ok(link),
             };
         }
         i += 1;
@@ -98,20 +85,7 @@ fn answers(record: [u8; 8], wanted: Wanted) -> bool
     ensures { result ≡ answers wanted «record» }
 {
     match wanted {
-        Wanted::Nobody => false,
         Wanted::Sender(a) => bears(record, a),
         Wanted::Responder(a, g) => bears(record, a) & is_responder(record) & (record[1] == g),
-    }
-}
-
-// The search came to a record that was looked for.
-pub fn is_found(found: Found) -> bool
-    ensures { result ≡ is_found found }
-{
-    match found {
-        Found::NoSearch => false,
-        Found::Match(_) => true,
-        Found::EndMark => false,
-        Found::MemoryEnd => false,
     }
 }

@@ -6,6 +6,7 @@ use mathlib.Core.List.{List}
 use lib.Dec.{eqb}
 use native.Mathlib.Omega.{arith}
 use borrow.Author.Tests.{eqb-true}
+use Rattle.std.specs.Prelude.{Result}
 use Rattle.basis.specs.Choice.{choose}
 use Rattle.basis.specs.Numbers.{within}
 use Rattle.basis.proofs.Choice.{either, by}
@@ -18,7 +19,8 @@ use Rattle.wire.specs.Commands.{group_command_of}
 use Rattle.wire.specs.Kinds.{type_of, is_direct, is_cleanup, is_foreign, kind_of}
 use Rattle.wire.specs.Checksum.{is_sum_wrong}
 use Rattle.wire.specs.Reading.{read_of}
-use Rattle.links.specs.declared.search.Found.{Found}
+use Rattle.links.specs.declared.memory.Link.{Link}
+use Rattle.links.specs.declared.search.Missing.{Missing}
 use Rattle.links.specs.Record.{is_fit, records}
 use Rattle.links.specs.Search.{search_of}
 use Rattle.links.proofs.Following.{by_found}
@@ -92,7 +94,7 @@ module _ (m : Module) (l s : List ℕ) where
       command : GroupCommand
       command = group_command_of (command1_of s)
 
-      found : MessageKind → Found
+      found : MessageKind → Result Link Missing
       found kind = (search_of l (wanted_of kind)).found
 
       unconcerned : {type : ReplyType} {r : Request} → Fair type r (refused Outcome.Unconcerned Due.Nothing)

@@ -6,6 +6,7 @@ use mathlib.Core.List.{List, [], ◌∷◌}
 use lib.ListN.{take, drop}
 use lib.Seq.{take-append-le}
 use borrow.Author.Tests.{eq-eqb, le-leb}
+use Rattle.std.specs.Prelude.{Ok, Option, Some, None}
 use Rattle.basis.specs.Choice.{choose}
 use Rattle.basis.specs.Spell.{spell}
 use Rattle.basis.proofs.Choice.{either, beside}
@@ -15,14 +16,12 @@ use Rattle.wire.specs.declared.request.Request.{Request}
 use Rattle.wire.specs.declared.command.Extended.{Extended}
 use Rattle.wire.specs.declared.command.Command.{Command}
 use Rattle.wire.specs.declared.kind.MessageKind.{MessageKind}
-use Rattle.wire.specs.declared.kind.Reading.{Reading}
 use Rattle.wire.specs.declared.kind.Message.{Message}
 use Rattle.wire.specs.Bytes.{to_of, named_in, command1_of, request_of, data_at, data_of, data_in, is_extended, is_whole, equals}
 use Rattle.wire.specs.Commands.{extendeds}
 use Rattle.wire.specs.Kinds.{is_direct, is_cleanup, is_broadcast, is_foreign, kind_of}
 use Rattle.wire.specs.Checksum.{sum_of, is_sum_right, is_exempt, is_sum_wrong}
 use Rattle.wire.specs.Reading.{bare, read_of}
-use Rattle.links.specs.declared.name.Place.{Place}
 use Rattle.links.specs.Record.{is_fit, records}
 use Rattle.links.specs.Name.{place_of}
 use Rattle.links.specs.Write.{written_if_there}
@@ -80,8 +79,8 @@ fits s c (checked z) =
 -- a whole extended direct message with Command 1 = 2F and no wrong sum is heard as a database command, unless it is for another module
 as_database_read : (u : List ℕ) (own : Address) → is_whole u ≡ true → is_extended u ≡ true → is_direct u ≡ true → command1_of u ≡ 0x2f → is_sum_wrong u ≡ false
     → read_of u own
-    ≡ choose (is_foreign u own) (bare (named_in u) (Reading.Heard MessageKind.Foreign))
-    (record { to = named_in u; reading = Reading.Heard (MessageKind.Direct (request_of u) database); «data» = data_of u })
+    ≡ choose (is_foreign u own) (bare (named_in u) (Ok MessageKind.Foreign))
+    (record { to = named_in u; reading = Ok (MessageKind.Direct (request_of u) database); «data» = data_of u })
 unfolding read_of choose kind_of extendeds
 as_database_read u own whole p v c sum =
     let kind : kind_of u ≡ MessageKind.Direct (request_of u) database = rw (v, p, c) in
@@ -105,13 +104,13 @@ module _ (m : Module) (l room h r : List ℕ) (x y : ℕ) where
   q = request_of s
 
   -- the deed is one
-  get_alike : (place : Place) → get_deed d place ≡ get_deed e place
-  get_alike (Place.Record k) = refl
-  get_alike Place.Illegal = refl
+  get_alike : (place : Option ℕ) → get_deed d place ≡ get_deed e place
+  get_alike (Some k) = refl
+  get_alike None = refl
 
-  set_alike : (place : Place) → set_deed d place ≡ set_deed e place
-  set_alike (Place.Record k) = refl
-  set_alike Place.Illegal = refl
+  set_alike : (place : Option ℕ) → set_deed d place ≡ set_deed e place
+  set_alike (Some k) = refl
+  set_alike None = refl
 
   deed_alike : database_deed q d (records l) ≡ database_deed q e (records l)
   unfolding database_deed record_deed
@@ -124,20 +123,20 @@ module _ (m : Module) (l room h r : List ℕ) (x y : ℕ) where
   abbrev Writes : Writing → Type 0
   Writes writing = links_after l d writing ≡ links_after l e writing
 
-  got : (place : Place) → Writes (deed_plan m q (get_deed e place)).writing
-  got (Place.Record k) = refl
-  got Place.Illegal = refl
+  got : (place : Option ℕ) → Writes (deed_plan m q (get_deed e place)).writing
+  got (Some k) = refl
+  got None = refl
 
-  set : (place : Place) → Writes (deed_plan m q (set_deed e place)).writing
+  set : (place : Option ℕ) → Writes (deed_plan m q (set_deed e place)).writing
   unfolding limited choose
-  set (Place.Record k) =
+  set (Some k) =
       by_limits (λ (deed : Deed). Writes (deed_plan m q deed).writing) 1 8 (data_at s 5) (Deed.Written k (data_at s 5))
       (λ a b. rw (le-leb 1 (data_at s 5) a, le-leb (data_at s 5) 8 b) (ap (written_if_there l k) (early b)))
       refl
     where
       early : data_at s 5 ≤ 8 → take (data_at s 5) (drop 5 d) ≡ take (data_at s 5) (drop 5 e)
       early b = take-append-le (data_at s 5) (spell 8 1 r) (x ∷ []) b ∙ sym (take-append-le (data_at s 5) (spell 8 1 r) (y ∷ []) b)
-  set Place.Illegal = refl
+  set None = refl
 
   written_alike : Writes (deed_plan m q (database_deed q e (records l))).writing
   unfolding database_deed record_deed
@@ -148,7 +147,7 @@ module _ (m : Module) (l room h r : List ℕ) (x y : ℕ) where
 
   -- so the ruling is one, and what comes of it too
   abbrev heard_as : List ℕ → Message
-  heard_as bytes = record { to = named_in s; reading = Reading.Heard (MessageKind.Direct q database); «data» = bytes }
+  heard_as bytes = record { to = named_in s; reading = Ok (MessageKind.Direct q database); «data» = bytes }
 
   ruling_alike : ruling_by m l (heard_as d) ≡ ruling_by m l (heard_as e)
   unfolding ruling_by direct_plan
@@ -222,7 +221,7 @@ either_name m l room head middle x y a b c f g = subst Equal (spelled 9 middle b
     go u v = by_either m l room head middle x y c u v
 
 -- a database command that names no record is not listed
-unnamed : (r : Request) (d : List ℕ) (n : ℕ) → place_of n (data_in d 3 * 256 + data_in d 4) ≡ Place.Illegal → database_deed r d n ≡ Deed.Unlisted
+unnamed : (r : Request) (d : List ℕ) (n : ℕ) → place_of n (data_in d 3 * 256 + data_in d 4) ≡ None → database_deed r d n ≡ Deed.Unlisted
 unfolding database_deed record_deed
 unnamed r d n nowhere =
     let P : Deed → Type 0 = λ deed. deed ≡ Deed.Unlisted in

@@ -7,6 +7,7 @@ use mathlib.Core.Logic.{◌⊎◌, inl, inr}
 use native.Mathlib.Omega.{arith}
 use lib.Dec.{eqb}
 use borrow.Author.Tests.{eqb-true}
+use Rattle.std.specs.Prelude.{Some}
 use Rattle.basis.specs.Choice.{choose}
 use Rattle.basis.proofs.Tests.{both, clash}
 use Rattle.wire.specs.declared.command.GroupCommand.{GroupCommand}
@@ -177,7 +178,7 @@ module _ (s : List ℕ) where
 module _ (m : Module) (l s : List ℕ) (f : is_fit l ≡ true) (w : well_formed s m.identity.address ≡ true) where
   module _ (b : is_broadcast s ≡ true) where
     ruled-call : calls s (group_command_of (command1_of s)) ≡ true
-        → (ruling_of m l s).plan ≡ broadcast_plan m.load (group_command_of (command1_of s)) (search_of l (Wanted.Responder (from_of s) (to_of s).low)).found
+        → (ruling_of m l s).plan ≡ broadcast_plan m.load (group_command_of (command1_of s)) (search_of l (Some (Wanted.Responder (from_of s) (to_of s).low))).found
     unfolding choose
     ruled-call e = rw (broadcast_ruling m l s f w b, e)
 

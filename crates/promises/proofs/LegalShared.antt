@@ -8,6 +8,7 @@ use lib.Dec.{eqb}
 use lib.ListN.{length, take, drop, length-take}
 use lib.Seq.{drop-drop}
 use borrow.Author.Tests.{le-leb, eq-eqb, ne_eqb, eqb-true, eqb-false}
+use Rattle.std.specs.Prelude.{Option, Some, None}
 use Rattle.basis.specs.Choice.{choose}
 use Rattle.basis.specs.Flags.{flagged}
 use Rattle.basis.proofs.Choice.{by}
@@ -23,7 +24,6 @@ use Rattle.wire.specs.Asked.{Short, command_in}
 use Rattle.wire.proofs.CommandBytes.{Told, to-anybody, to-module, to-load, ToldLong, to-set-flags, to-properties, to-database, long-to-load}
 use Rattle.wire.proofs.CommandBytes.{by_command, short_command, long_command}
 use Rattle.wire.proofs.Whole.{by_length}
-use Rattle.links.specs.declared.name.Place.{Place}
 use Rattle.links.specs.Record.{records}
 use Rattle.links.specs.Name.{place_of}
 use Rattle.links.specs.Write.{written, written_if_there}
@@ -138,17 +138,17 @@ module _ (m : Module) (l s : List ℕ) where
       properties-judged = by SharedJudged (eqb (command2_of s) 0x00) (λ e. property-judged (eqb-true _ 0x00 e)) (λ _. other refl)
 
     module _ (y : command1_of s ≡ 0x2f) where
-      get-judged : command2_of s ≡ 0x00 → data_at s 2 ≡ 0x00 → (place : Place) → place_of (records l) (address l s) ≡ place → SharedJudged (get_deed (data_of s) place)
-      get-judged z w (Place.Record k) e =
+      get-judged : command2_of s ≡ 0x00 → data_at s 2 ≡ 0x00 → (place : Option ℕ) → place_of (records l) (address l s) ≡ place → SharedJudged (get_deed (data_of s) place)
+      get-judged z w (Some k) e =
           let it = is_named l s k e in
           listed _ (get-database ((x, y), z, w) k it _ (counted l k (data_at s 5) (is_there l s k it)))
-      get-judged z w Place.Illegal e = other refl
+      get-judged z w None e = other refl
 
-      set-judged : command2_of s ≡ 0x00 → data_at s 2 ≡ 0x02 → (place : Place) → place_of (records l) (address l s) ≡ place → SharedJudged (set_deed (data_of s) place)
-      set-judged z w (Place.Record k) e =
+      set-judged : command2_of s ≡ 0x00 → data_at s 2 ≡ 0x02 → (place : Option ℕ) → place_of (records l) (address l s) ≡ place → SharedJudged (set_deed (data_of s) place)
+      set-judged z w (Some k) e =
           by_limits SharedJudged 1 8 (data_at s 5) _
           (λ a b. listed _ (set-database ((x, y), z, w) k (is_named l s k e) a b)) (other refl)
-      set-judged z w Place.Illegal e = other refl
+      set-judged z w None e = other refl
 
       record-judged : command2_of s ≡ 0x00 → SharedJudged (record_deed (data_of s) (records l))
       unfolding record_deed

@@ -6,8 +6,8 @@ use mathlib.Core.List.{List}
 use native.Mathlib.Omega.{arith}
 use lib.Dec.{eqb}
 use borrow.Author.Tests.{eqb-true, eqb-false}
+use Rattle.std.specs.Prelude.{Some}
 use Rattle.wire.specs.Bytes.{data_at}
-use Rattle.links.specs.declared.name.Place.{Place}
 use Rattle.links.specs.Record.{records}
 use Rattle.links.specs.Name.{meant, place_of}
 use Rattle.links.proofs.Named.{legal, named, itself, zero_means}
@@ -21,11 +21,11 @@ module _ (l s : List ℕ) where
   is_there _ (by_place k h e) = h
   is_there _ (by_zero h a b) = h
 
-  pub names_record : (k : ℕ) → Names s l k → place_of (records l) address ≡ Place.Record k
+  pub names_record : (k : ℕ) → Names s l k → place_of (records l) address ≡ Some k
   names_record _ (by_place k h e) = legal (records l) address k h (rw (itself address (omega arith)) e)
   names_record _ (by_zero h a b) = rw (a, b) (legal (records l) 0x0000 0 h (rw zero_means))
 
-  pub is_named : (k : ℕ) → place_of (records l) address ≡ Place.Record k → Names s l k
+  pub is_named : (k : ℕ) → place_of (records l) address ≡ Some k → Names s l k
   is_named k e = go (eqb address 0x0000) refl (named (records l) address k e)
     where
       go : (b : Bool) → eqb address 0x0000 ≡ b → (k < records l) × (meant address + 8 * k ≡ 0x0fff) → Names s l k

@@ -3,6 +3,7 @@ use Prim.Native.Nat.{ℕ}
 use mathlib.Core.Path.{◌≡◌, refl, sym, ◌∙◌}
 use mathlib.Core.Bool.{Bool, true, false}
 use mathlib.Core.List.{List}
+use Rattle.std.specs.Prelude.{Some}
 use Rattle.basis.specs.Choice.{choose}
 use Rattle.basis.proofs.Tests.{clash}
 use Rattle.basis.proofs.First.{one_first}
@@ -13,7 +14,7 @@ use Rattle.links.specs.declared.search.Wanted.{Wanted}
 use Rattle.links.specs.declared.search.Searched.{Searched}
 use Rattle.links.specs.Record.{record_at, is_end_mark}
 use Rattle.links.specs.Live.{FirstUnused}
-use Rattle.links.specs.Search.{is_sought, search_of}
+use Rattle.links.specs.Search.{search_of}
 use Rattle.links.specs.Settled.{LiveMatch, Settled, matched, ended, exhausted}
 use Rattle.links.proofs.Settled.{settled}
 use Rattle.module.specs.declared.state.Module.{Module}
@@ -56,9 +57,9 @@ module _ (m : Module) (l s : List ℕ) where
   one_count a b (all n x v) (all _ y z) = refl
 
   -- a search for what the message looks for
-  by_search : (w : Wanted) → is_sought w ≡ true → ((k : ℕ) → LiveMatch l w k → Sought l s k) → ((k : ℕ) → Sought l s k → LiveMatch l w k) → ¬ NoSearch m l s
-      → Reads m l s (search_of l w).read
-  by_search w e to from n = go (search_of l w) (settled l w e)
+  by_search : (w : Wanted) → ((k : ℕ) → LiveMatch l w k → Sought l s k) → ((k : ℕ) → Sought l s k → LiveMatch l w k) → ¬ NoSearch m l s
+      → Reads m l s (search_of l (Some w)).read
+  by_search w to from n = go (search_of l (Some w)) (settled l w)
     where
       go : (f : Searched) → Settled l w f → Reads m l s f.read
       go f (matched k x before) = matching n k (to k x) (λ j h y. before j h (from j y))
@@ -77,13 +78,13 @@ module _ (m : Module) (l s : List ℕ) where
     searched p q (unfit-command b x) = x (q b).1
 
     module _ (d : is_direct s ≡ true) where
-      direct-read : ping_or_id s ≡ false → (ruling_of m l s).read ≡ (search_of l (Wanted.Sender (from_of s))).read
+      direct-read : ping_or_id s ≡ false → (ruling_of m l s).read ≡ (search_of l (Some (Wanted.Sender (from_of s)))).read
       unfolding choose
       direct-read e = rw (direct_ruling m l s (fit m l s h) (well_formed_lem m l s h) d, exempt s, e)
 
       direct-reads : (t : Bool) → ping_or_id s ≡ t → Reads m l s (ruling_of m l s).read
       direct-reads true e = rw (unread m l s (fit m l s h) (well_formed_lem m l s h) d (exempt s ∙ e)) (none (ping-or-id d e))
-      direct-reads false e = rw (direct-read e) (by_search (Wanted.Sender (from_of s)) refl to from (searched (λ x. clash x.1 e) (λ b. apart s 0 6 refl d b)))
+      direct-reads false e = rw (direct-read e) (by_search (Wanted.Sender (from_of s)) to from (searched (λ x. clash x.1 e) (λ b. apart s 0 6 refl d b)))
         where
           to : (k : ℕ) → LiveMatch l (Wanted.Sender (from_of s)) k → Sought l s k
           to k x = of-sender d x.live x.wanted
@@ -94,13 +95,13 @@ module _ (m : Module) (l s : List ℕ) where
           from k (of-broadcast b x) = apart s 0 6 refl d b
 
     module _ (c : is_cleanup s ≡ true) where
-      cleanup-read : (ruling_of m l s).read ≡ (search_of l (Wanted.Responder (from_of s) (command2_of s))).read
+      cleanup-read : (ruling_of m l s).read ≡ (search_of l (Some (Wanted.Responder (from_of s) (command2_of s)))).read
       cleanup-read = rw (cleanup_ruling m l s (fit m l s h) (well_formed_lem m l s h) c)
 
       cleanup-reads : Reads m l s (ruling_of m l s).read
       cleanup-reads =
           rw cleanup-read
-          (by_search (Wanted.Responder (from_of s) (command2_of s)) refl to from (searched (λ x. apart s 2 0 refl c x.0) (λ b. apart s 2 6 refl c b)))
+          (by_search (Wanted.Responder (from_of s) (command2_of s)) to from (searched (λ x. apart s 2 0 refl c x.0) (λ b. apart s 2 6 refl c b)))
         where
           to : (k : ℕ) → LiveMatch l (Wanted.Responder (from_of s) (command2_of s)) k → Sought l s k
           to k x = of-cleanup c (as_responder l (from_of s) (command2_of s) k x)
@@ -111,7 +112,7 @@ module _ (m : Module) (l s : List ℕ) where
           from k (of-broadcast b x) = apart s 2 6 refl c b
 
     module _ (b : is_broadcast s ≡ true) where
-      call-read : calls s (group_command_of (command1_of s)) ≡ true → (ruling_of m l s).read ≡ (search_of l (Wanted.Responder (from_of s) (to_of s).low)).read
+      call-read : calls s (group_command_of (command1_of s)) ≡ true → (ruling_of m l s).read ≡ (search_of l (Some (Wanted.Responder (from_of s) (to_of s).low))).read
       unfolding choose
       call-read e = rw (broadcast_ruling m l s (fit m l s h) (well_formed_lem m l s h) b, e)
 
@@ -122,7 +123,7 @@ module _ (m : Module) (l s : List ℕ) where
       broadcast-reads : (t : Bool) → calls s (group_command_of (command1_of s)) ≡ t → Reads m l s (ruling_of m l s).read
       broadcast-reads true e =
           rw (call-read e)
-          (by_search (Wanted.Responder (from_of s) (to_of s).low) refl to from (searched (λ x. apart s 6 0 refl b x.0) (λ _. calling s e)))
+          (by_search (Wanted.Responder (from_of s) (to_of s).low) to from (searched (λ x. apart s 6 0 refl b x.0) (λ _. calling s e)))
         where
           to : (k : ℕ) → LiveMatch l (Wanted.Responder (from_of s) (to_of s).low) k → Sought l s k
           to k x = of-broadcast b (as_responder l (from_of s) (to_of s).low k x)

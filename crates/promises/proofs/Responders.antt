@@ -6,6 +6,7 @@ use mathlib.Core.List.{List}
 use mathlib.Core.Logic.{◌⊎◌, inl, inr}
 use lib.Dec.{eqb}
 use borrow.Author.Tests.{eq-eqb, eqb-true}
+use Rattle.std.specs.Prelude.{Some}
 use Rattle.basis.proofs.Tests.{both}
 use Rattle.basis.proofs.First.{one_first}
 use Rattle.wire.specs.declared.address.Address.{Address}
@@ -41,16 +42,16 @@ module _ (l : List ℕ) (a : Address) (g : ℕ) where
 
   module _ {A : Type 0} (then : Link → A) (none : A) where
     -- the first one decides
-    pub found_first : (k : ℕ) → FirstResponder l a g k → if_found (search_of l wanted).found then none ≡ then (link_of (record_at l k))
-    found_first k r = go (search_of l wanted) (settled l wanted refl)
+    pub found_first : (k : ℕ) → FirstResponder l a g k → if_found (search_of l (Some wanted)).found then none ≡ then (link_of (record_at l k))
+    found_first k r = go (search_of l (Some wanted)) (settled l wanted)
       where
         go : (f : Searched) → Settled l wanted f → if_found f.found then none ≡ then (link_of (record_at l k))
         go f (matched j m before) = rw (one_first (LiveMatch l wanted) j k m before (as_match k r.responder) (λ i h x. r.first i h (as_responder i x)))
         go f (ended j e no-match) = absurd (no-match k (as_match k r.responder))
         go f (exhausted e no-match) = absurd (no-match k (as_match k r.responder))
 
-    pub found_none : NoResponder l a g → if_found (search_of l wanted).found then none ≡ none
-    found_none nobody = go (search_of l wanted) (settled l wanted refl)
+    pub found_none : NoResponder l a g → if_found (search_of l (Some wanted)).found then none ≡ none
+    found_none nobody = go (search_of l (Some wanted)) (settled l wanted)
       where
         go : (f : Searched) → Settled l wanted f → if_found f.found then none ≡ none
         go f (matched j m before) = absurd (nobody j (as_responder j m))
@@ -66,7 +67,7 @@ module _ (l : List ℕ) (a : Address) (g : ℕ) where
     pub decides : FirstResponder l a g place
 
   pub first_or_none : SomeFirst ⊎ NoResponder l a g
-  first_or_none = go (search_of l wanted) (settled l wanted refl)
+  first_or_none = go (search_of l (Some wanted)) (settled l wanted)
     where
       go : (f : Searched) → Settled l wanted f → SomeFirst ⊎ NoResponder l a g
       go f (matched k m before) = inl (record { place = k; decides = as_first k m before })

@@ -6,6 +6,7 @@ use mathlib.Core.List.{List, ◌∷◌}
 use native.Mathlib.Omega.{arith}
 use lib.Dec.{eqb, ltb}
 use lib.ListN.{length}
+use Rattle.std.specs.Prelude.{Result, Ok, Err, Option, Some, None, is_ok}
 use Rattle.basis.specs.Numbers.{within}
 use Rattle.basis.proofs.Choice.{beside}
 use Rattle.wire.specs.declared.address.Address.{Address}
@@ -17,17 +18,16 @@ use Rattle.wire.specs.declared.command.Extended.{Extended}
 use Rattle.wire.specs.declared.command.Command.{Command}
 use Rattle.wire.specs.declared.command.GroupCommand.{GroupCommand}
 use Rattle.wire.specs.declared.kind.MessageKind.{MessageKind}
-use Rattle.wire.specs.declared.kind.Reading.{Reading}
+use Rattle.wire.specs.declared.kind.Unread.{Unread}
 use Rattle.wire.specs.declared.kind.Message.{Message}
 use Rattle.wire.specs.Bytes.{data_in}
 use Rattle.wire.specs.Kinds.{kind_of}
 use Rattle.wire.specs.Reading.{read_of}
 use Rattle.links.specs.declared.memory.Link.{Link}
-use Rattle.links.specs.declared.name.Place.{Place}
-use Rattle.links.specs.declared.search.Found.{Found}
+use Rattle.links.specs.declared.search.Missing.{Missing}
 use Rattle.links.specs.Record.{is_fit, records}
 use Rattle.links.specs.Name.{place_of}
-use Rattle.links.specs.Search.{search_of, is_found}
+use Rattle.links.specs.Search.{search_of}
 use Rattle.links.proofs.Following.{beside_found}
 use Rattle.reply.specs.declared.due.Due.{Due}
 use Rattle.reply.specs.Reply.{reply_of}
@@ -126,19 +126,19 @@ module _ (m : Module) (flags led ramp level : ℕ) (l d : List ℕ) where
         unchanged-but-led : (x : ℕ) → Besides (with_led x m) (with_led x n)
         unchanged-but-led x = record { flags = flags; led = x; ramp = ramp; on-level = level; rest = refl }
 
-    get-both : (place : Place) → Both (get_deed d place) (get_deed d place)
-    get-both (Place.Record k) = record { number = refl; next = unchanged; links = refl; due = refl }
-    get-both Place.Illegal = unlisted-both
+    get-both : (place : Option ℕ) → Both (get_deed d place) (get_deed d place)
+    get-both (Some k) = record { number = refl; next = unchanged; links = refl; due = refl }
+    get-both None = unlisted-both
 
-    set_both : (place : Place) → Both (set_deed d place) (set_deed d place)
-    set_both (Place.Record k) =
+    set_both : (place : Option ℕ) → Both (set_deed d place) (set_deed d place)
+    set_both (Some k) =
         limited-both _ _ _ _ _ (record { number = refl; next = record { flags = flags; led = led; ramp = ramp; on-level = level; rest = refl }; links = refl; due = refl })
-    set_both Place.Illegal = unlisted-both
+    set_both None = unlisted-both
 
     database-both : Both (database_deed r d (records l)) (database_deed r d (records l))
     unfolding database_deed record_deed
     database-both =
-        let place : Place = place_of (records l) (data_in d 3 * 256 + data_in d 4) in
+        let place : Option ℕ = place_of (records l) (data_in d 3 * 256 + data_in d 4) in
         beside Both (eqb r.command2 0x00)
         (beside Both (eqb (data_in d 2) 0x00) (get-both place) (beside Both (eqb (data_in d 2) 0x02) (set_both place) unlisted-both))
         unlisted-both
@@ -182,9 +182,9 @@ module _ (m : Module) (flags led ramp level : ℕ) (l d : List ℕ) where
           let x = entry_by (Load.Outlet sockets) r d command in
           by-entry x.load x.load (record { rate = 0; on = 0; rest = refl }) _ _ (same x.entry)
 
-    direct-alike : (command : Command) (found : Found) → Same (direct_plan m r d (records l) command found) (direct_plan n r d (records l) command found)
+    direct-alike : (command : Command) (found : Result Link Missing) → Same (direct_plan m r d (records l) command found) (direct_plan n r d (records l) command found)
     unfolding direct_plan
-    direct-alike command found = beside Same (needs_no_link command || is_found found) (answers-both command m.load) (none Outcome.NotLinked _)
+    direct-alike command found = beside Same (needs_no_link command || is_ok found) (answers-both command m.load) (none Outcome.NotLinked _)
 
   -- what a record does to both
   data BothGroups : GroupDeed → GroupDeed → Type 0 where
@@ -211,7 +211,7 @@ module _ (m : Module) (flags led ramp level : ℕ) (l d : List ℕ) where
   called_alike a b (both-done x y h) = record { number = refl; next = loads_besides x y h; links = refl; due = refl }
   called_alike a b both-unlisted = none Outcome.Unconcerned Due.Nothing
 
-  plan_alike : (kind : MessageKind) (found : Found) → Same (plan_of m kind d (records l) found) (plan_of n kind d (records l) found)
+  plan_alike : (kind : MessageKind) (found : Result Link Missing) → Same (plan_of m kind d (records l) found) (plan_of n kind d (records l) found)
   plan_alike (MessageKind.Direct r command) found = direct-alike r command found
   plan_alike (MessageKind.Cleanup r command) found =
       beside_found Same found _ _ _ _ (λ link. cleaned_alike r _ _ (group_alike m.load command link)) (none Outcome.NotLinked _)
@@ -223,10 +223,10 @@ module _ (m : Module) (flags led ramp level : ℕ) (l d : List ℕ) where
     plan : Same p.plan q.plan
     read : p.read ≡ q.read
 
-  ruled_alike : (reading : Reading) → Ruled (read_ruling m l d reading) (read_ruling n l d reading)
-  ruled_alike (Reading.Heard kind) = record { plan = plan_alike kind (search_of l (wanted_of kind)).found; read = refl }
-  ruled_alike Reading.BadLength = record { plan = none Outcome.BadLength Due.Nothing; read = refl }
-  ruled_alike Reading.BadSum = record { plan = none Outcome.BadSum Due.Nothing; read = refl }
+  ruled_alike : (reading : Result MessageKind Unread) → Ruled (read_ruling m l d reading) (read_ruling n l d reading)
+  ruled_alike (Ok kind) = record { plan = plan_alike kind (search_of l (wanted_of kind)).found; read = refl }
+  ruled_alike (Err Unread.BadLength) = record { plan = none Outcome.BadLength Due.Nothing; read = refl }
+  ruled_alike (Err Unread.BadSum) = record { plan = none Outcome.BadSum Due.Nothing; read = refl }
 
 -- and what comes of them
 module _ (m : Module) (flags led ramp level : ℕ) (l s room : List ℕ) where

@@ -1,9 +1,9 @@
 -- The first round: whose addresses are noted, and who is to be served then.
-use Rattle.std.specs.Prelude.{ℕ, ◌/◌, List, ltb, get_or, replicate}
+use Rattle.std.specs.Prelude.{ℕ, ◌/◌, List, ltb, get_or, replicate, Result, Ok, Err}
 use Rattle.basis.specs.Choice.{choose}
 use Rattle.wire.specs.declared.address.Address.{Address}
 use Rattle.wire.specs.declared.kind.MessageKind.{MessageKind}
-use Rattle.wire.specs.declared.kind.Reading.{Reading}
+use Rattle.wire.specs.declared.kind.Unread.{Unread}
 use Rattle.wire.specs.declared.kind.Message.{Message}
 use Rattle.wire.specs.Bytes.{no_name}
 use Rattle.results.specs.declared.Outcome.{Outcome}
@@ -34,10 +34,10 @@ scope_of_kind (MessageKind.Cleanup r command) = Scope.One
 scope_of_kind (MessageKind.Broadcast from to command) = Scope.All
 scope_of_kind MessageKind.Foreign = Scope.Unheard
 
-abbrev pub scope_of : Reading → Scope
-scope_of (Reading.Heard kind) = scope_of_kind kind
-scope_of Reading.BadLength = Scope.Ill
-scope_of Reading.BadSum = Scope.One
+abbrev pub scope_of : Result MessageKind Unread → Scope
+scope_of (Ok kind) = scope_of_kind kind
+scope_of (Err Unread.BadLength) = Scope.Ill
+scope_of (Err Unread.BadSum) = Scope.One
 
 -- what stays during a message to n seats, with shares of w bytes
 abbrev pub task_of : ℕ → ℕ → Message → Task

@@ -6,16 +6,16 @@ ghost use Rattle.row.specs.Round.{scope_of_kind, scope_of, task_of, begun, opene
 use crate::outcome::ClassOutcome;
 use crate::progress::{Progress, Round, Scope, Task, silent};
 use wire::address::Address;
-use wire::kind::{Message, MessageKind, Reading};
+use wire::kind::{Message, MessageKind, Unread};
 
 // Where the sum is wrong result 10 comes first, so that it is asked whom the message is for.
-fn scope_of(reading: Reading) -> Scope
+fn scope_of(reading: Result<MessageKind, Unread>) -> Scope
     ensures { result ≡ scope_of reading }
 {
     match reading {
-        Reading::Heard(kind) => scope_of_kind(kind),
-        Reading::BadLength => Scope::Ill,
-        Reading::BadSum => Scope::One,
+        Ok(kind) => scope_of_kind(kind),
+        Err(Unread::BadLength) => Scope::Ill,
+        Err(Unread::BadSum) => Scope::One,
     }
 }
 

@@ -1,12 +1,11 @@
 -- "Direct commands, extended": what they do to every module.
-use Rattle.std.specs.Prelude.{ℕ, ◌+◌, ◌*◌, List, [], ◌∷◌, eqb}
+use Rattle.std.specs.Prelude.{ℕ, ◌+◌, ◌*◌, List, [], ◌∷◌, eqb, Option, Some, None}
 use Rattle.basis.specs.Choice.{choose}
 use Rattle.basis.specs.Table.{Row, among, ◌⇒◌}
 use Rattle.basis.specs.Flags.{flagged}
 use Rattle.wire.specs.declared.request.Request.{Request}
 use Rattle.wire.specs.declared.command.Extended.{Extended}
 use Rattle.wire.specs.Bytes.{data_in}
-use Rattle.links.specs.declared.name.Place.{Place}
 use Rattle.links.specs.Name.{place_of}
 use Rattle.reply.specs.declared.due.DataBytes.{DataBytes}
 use Rattle.load.specs.declared.entry.Properties.{Properties}
@@ -58,16 +57,16 @@ abbrev pub shown_deed : Module → ℕ → Properties → Deed
 shown_deed m data1 p = Deed.Done Change.Nothing (Ack.WithProperties (shown m data1 p))
 
 -- 2F, Data 2 = 00: records are sent from k on, Data 5 at most
-abbrev pub get_deed : List ℕ → Place → Deed
-get_deed d (Place.Record k) = Deed.Done Change.Nothing (Ack.WithRecords (data_in d 1) k (data_in d 5))
-get_deed d Place.Illegal = Deed.Unlisted
+abbrev pub get_deed : List ℕ → Option ℕ → Deed
+get_deed d (Some k) = Deed.Done Change.Nothing (Ack.WithRecords (data_in d 1) k (data_in d 5))
+get_deed d None = Deed.Unlisted
 
 -- Data 2 = 02: Data 5 = 1 to 8 bytes, from Data 6 on, go over the first bytes of record k
-abbrev pub set_deed : List ℕ → Place → Deed
-set_deed d (Place.Record k) = limited 1 8 (data_in d 5) (Deed.Written k (data_in d 5))
-set_deed d Place.Illegal = Deed.Unlisted
+abbrev pub set_deed : List ℕ → Option ℕ → Deed
+set_deed d (Some k) = limited 1 8 (data_in d 5) (Deed.Written k (data_in d 5))
+set_deed d None = Deed.Unlisted
 
-abbrev pub record_rows : List ℕ → Place → List (Row Deed)
+abbrev pub record_rows : List ℕ → Option ℕ → List (Row Deed)
 record_rows d place =
     0x00 ⇒ get_deed d place ∷
     0x02 ⇒ set_deed d place ∷

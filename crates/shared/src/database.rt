@@ -2,7 +2,7 @@
 ghost use Rattle.std.specs.Prelude.{◌≡◌, ◌<◌};
 ghost use Rattle.shared.specs.Extended.{get_deed, set_deed, record_deed, database_deed};
 
-use links::name::{Place, place_of};
+use links::name::place_of;
 use module::change::Change;
 use module::deed::{Ack, Deed, limited};
 use wire::request::Request;
@@ -32,26 +32,26 @@ fn record_deed(data: [u8; 14], records: usize) -> Deed
 }
 
 // Get Database: Data 5 is how many records at most.
-fn get_deed(data: [u8; 14], place: Place) -> Deed
+fn get_deed(data: [u8; 14], place: Option<usize>) -> Deed
     ensures { result ≡ get_deed «data» place }
 {
     match place {
-        Place::Record(k) => Deed::Done(
+        Some(k) => Deed::Done(
             Change::Nothing,
             Ack::WithRecords(data[0], k, wide(data[4])),
         ),
-        Place::Illegal => Deed::Unlisted,
+        None => Deed::Unlisted,
     }
 }
 
 // Set Database: Data 5 is how many bytes.
-fn set_deed(data: [u8; 14], place: Place) -> Deed
+fn set_deed(data: [u8; 14], place: Option<usize>) -> Deed
     ensures { result ≡ set_deed «data» place }
 {
     let n = data[4];
     match place {
-        Place::Record(k) => limited(1, 8, n, Deed::Written(k, wide(n))),
-        Place::Illegal => Deed::Unlisted,
+        Some(k) => limited(1, 8, n, Deed::Written(k, wide(n))),
+        None => Deed::Unlisted,
     }
 }
 

@@ -4,11 +4,11 @@ use mathlib.Core.Path.{◌≡◌, refl}
 use mathlib.Core.Bool.{true, false, not, ◌&&◌}
 use mathlib.Core.List.{List}
 use borrow.Author.Tests.{not-true}
+use Rattle.std.specs.Prelude.{Ok}
 use Rattle.basis.specs.Choice.{choose}
 use Rattle.basis.proofs.Choice.{either}
 use Rattle.basis.proofs.Tests.{both}
 use Rattle.wire.specs.declared.address.Address.{Address}
-use Rattle.wire.specs.declared.kind.Reading.{Reading}
 use Rattle.wire.specs.declared.kind.Message.{Message}
 use Rattle.wire.specs.Bytes.{named_in, data_of, is_whole}
 use Rattle.wire.specs.Kinds.{is_foreign, kind_of}
@@ -30,6 +30,6 @@ module _ (s : List ℕ) (own : Address) (w : well_formed s own ≡ true) where
       (b.0, not-true _ b.1, not-true _ a.1)
 
   -- its kind, with its data bytes beside it
-  pub heard : read_of s own ≡ record { to = named_in s; reading = Reading.Heard (kind_of s); «data» = data_of s }
+  pub heard : read_of s own ≡ record { to = named_in s; reading = Ok (kind_of s); «data» = data_of s }
   unfolding read_of choose
   heard = rw (parts.0, parts.1, parts.2)

@@ -14,10 +14,9 @@ pub enum MessageKind {
     Foreign,
 }
 
-// What reading a message comes to.
+// Why a message is not read.
 #[derive(Clone, Copy)]
-pub enum Reading {
-    Heard(MessageKind),
+pub enum Unread {
     // Result 1.
     BadLength,
     // Result 4.
@@ -29,6 +28,6 @@ pub enum Reading {
 pub struct Message {
     // Nobody's address, 00 00 00, where the message is too short to say.
     pub to: Address,
-    pub reading: Reading,
+    pub reading: Result<MessageKind, Unread>,
     pub data: [u8; 14],
 }

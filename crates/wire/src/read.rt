@@ -7,7 +7,7 @@ ghost use Rattle.wire.specs.Reading.{bare, read_of, heard_in, ReadPromise};
 
 use crate::address::Address;
 use crate::command::{Command, extended_of, group_command_of, standard_of};
-use crate::kind::{Message, MessageKind, Reading};
+use crate::kind::{Message, MessageKind, Unread};
 use crate::request::Request;
 use crate::sum;
 
@@ -33,19 +33,19 @@ fn read_as(message: &[u8], to: Address, own: Address) -> Message
     ensures { result ≡ read_of message.now own }
 {
     if !is_whole(message) {
-        return bare(to, Reading::BadLength);
+        return bare(to, Err(Unread::BadLength));
     }
     if is_foreign(message, own) {
-        return bare(to, Reading::Heard(MessageKind::Foreign));
+        return bare(to, Ok(MessageKind::Foreign));
     }
     if is_sum_wrong(message) {
-        return bare(to, Reading::BadSum);
+        return bare(to, Err(Unread::BadSum));
     }
     let kind = kind_of(message);
     let data = data_of(message);
     Message {
         to: to,
-        reading: Reading::Heard(kind),
+        reading: Ok(kind),
         data: data,
     }
 }
@@ -64,7 +64,7 @@ pub fn heard_as(message: &[u8]) -> MessageKind
 }
 
 // A reading with no data bytes beside it.
-fn bare(to: Address, reading: Reading) -> Message
+fn bare(to: Address, reading: Result<MessageKind, Unread>) -> Message
     ensures { result ≡ bare to reading }
 {
     Message {

@@ -7,7 +7,6 @@ use Rattle.wire.specs.Kinds.{kind_of}
 use Rattle.wire.specs.Reading.{read_of}
 use Rattle.links.specs.Record.{start_of}
 use Rattle.links.specs.Search.{stop_of}
-use Rattle.module.specs.Deed.{grouped_by}
 use Rattle.dimmer.specs.Load.{load_entry}
 use Rattle.outlet.specs.Load as outlet-load
 use Rattle.outlet.specs.Groups.{socket_group}
@@ -19,6 +18,6 @@ use Rattle.promises.specs.Outlets.{group_1, record_of}
 use Rattle.apart.specs.Examples.{dimmer, outlet, lit, top_on, seats, shares, pair, twins, seat, to_seat, of_seat, called, examples, cramped, AllRight}
 
 pub all_right : AllRight
-unfolding choose first_from standards extendeds group_command_of kind_of read_of start_of stop_of load_entry outlet-load.load_entry grouped_by socket_group direct_plan ruling_by heard_from class_of linked stranger
+unfolding choose first_from standards extendeds group_command_of kind_of read_of start_of stop_of load_entry outlet-load.load_entry socket_group direct_plan ruling_by heard_from class_of linked stranger
     zeros first_record memory room group_1 record_of dimmer outlet lit top_on seats shares pair twins seat to_seat of_seat called examples cramped
 all_right = refl

@@ -1,5 +1,6 @@
 -- What a step leaves: as many bytes of link memory, and of a broadcast the room as it was.
 use Prim.Native.Nat.{ℕ, zero-le}
+use Rattle.std.specs.Prelude.{Option, Some, None}
 use mathlib.Core.Path.{◌≡◌, refl}
 use mathlib.Core.Bool.{true}
 use mathlib.Core.List.{List, []}
@@ -22,8 +23,8 @@ use Rattle.links.specs.Record.{is_fit}
 use Rattle.links.specs.Search.{search_of}
 use Rattle.links.proofs.Written.{length_kept}
 use Rattle.reply.specs.declared.due.Due.{Due}
+use Rattle.load.specs.declared.state.Load.{Load}
 use Rattle.module.specs.declared.state.Module.{Module}
-use Rattle.module.specs.declared.deed.GroupDeed.{GroupDeed}
 use Rattle.module.specs.declared.plan.Writing.{Writing}
 use Rattle.decide.specs.declared.rule.Ruling.{Ruling}
 use Rattle.decide.specs.Dispatch.{group_deed_by}
@@ -41,9 +42,9 @@ pub same_bytes : (m : Module) (l s room : List ℕ) → length (step_of m l s ro
 same_bytes m l s room = either (λ (t : Step). length t.links ≡ length l) _ {y = served_of m l (heard_by m s).data room _ (ruling_of m l s)} refl (writing-length l (heard_by m s).data (ruling_of m l s).plan.writing)
 
 -- a broadcast is never answered
-deed_quiet : (deed : GroupDeed) → (broadcast_by deed).due ≡ Due.Nothing
-deed_quiet (GroupDeed.Done load) = refl
-deed_quiet GroupDeed.Unlisted = refl
+deed_quiet : (next : Option Load) → (broadcast_by next).due ≡ Due.Nothing
+deed_quiet (Some load) = refl
+deed_quiet None = refl
 
 plan_quiet : (m : Module) (command : GroupCommand) (found : Result Link Missing) → (broadcast_plan m.load command found).due ≡ Due.Nothing
 plan_quiet m command (Ok link) = deed_quiet (group_deed_by m.load command link)

@@ -136,7 +136,6 @@ each_once =
       module-telling = λ _. by_value _;
       module-showing = λ _. by_value _;
       module-limited = λ _ _ _ _. by_value _;
-      module-grouped-by = λ _ _. by_value _;
       module-headed = λ _ _ _ _. by_value _;
       module-done = λ _ _. by_value _;
       module-wrote = λ _ _ _. by_value _;

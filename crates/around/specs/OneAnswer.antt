@@ -30,12 +30,10 @@ use Rattle.module.specs.declared.state.Identity.{Identity}
 use Rattle.load.specs.declared.entry.Properties.{Properties}
 use Rattle.load.specs.declared.state.Lamp.{Lamp}
 use Rattle.load.specs.declared.state.Sockets.{Sockets}
-use Rattle.load.specs.declared.state.Load.{Load}
 use Rattle.load.specs.Fresh.{fresh_lamp, fresh_sockets}
 use Rattle.module.specs.declared.state.Module.{Module}
 use Rattle.module.specs.declared.change.Change.{Change}
 use Rattle.module.specs.declared.deed.Deed.{Deed}
-use Rattle.module.specs.declared.deed.GroupDeed.{GroupDeed}
 use Rattle.module.specs.declared.plan.Plan.{Plan}
 use Rattle.module.specs.Module.{fresh_dimmer, fresh_outlet}
 use Rattle.module.specs.Change.{apply}
@@ -44,11 +42,9 @@ use Rattle.module.specs.Plan
 use Rattle.shared.specs.Extended.{shown_deed}
 use Rattle.shared.specs.Table.{shared_deed}
 use Rattle.dimmer.specs.declared.lamp.LampEntry.{LampEntry}
-use Rattle.dimmer.specs.declared.groups.LampGroup.{LampGroup}
 use Rattle.dimmer.specs.Table as dimmer
 use Rattle.dimmer.specs.Groups as dimmer-groups
 use Rattle.outlet.specs.declared.sockets.SocketsEntry.{SocketsEntry}
-use Rattle.outlet.specs.declared.groups.SocketsGroup.{SocketsGroup}
 use Rattle.outlet.specs.Table as outlet
 use Rattle.outlet.specs.Groups as outlet-groups
 use Rattle.decide.specs.declared.rule.Ruling.{Ruling}
@@ -148,7 +144,6 @@ pub record EachOnce : Type 0 where
   pub module-telling : (x : ℕ) → Only (λ (r : Deed). r ≡ Deed.telling x)
   pub module-showing : (x : ℕ) → Only (λ (r : Deed). r ≡ Deed.showing x)
   pub module-limited : (a b x : ℕ) (deed : Deed) → Only (λ (r : Deed). r ≡ Deed.limited a b x deed)
-  pub module-grouped-by : (load : Load) (is_listed : Bool) → Only (λ (r : GroupDeed). r ≡ Deed.grouped_by load is_listed)
   pub module-headed : (type : ReplyType) (q : Request) (one two : ℕ) → Only (λ (r : Head). r ≡ Plan.headed type q one two)
   pub module-done : (change : Change) (due : Due) → Only (λ (r : Plan). r ≡ Plan.done change due)
   pub module-wrote : (k n : ℕ) (due : Due) → Only (λ (r : Plan). r ≡ Plan.wrote k n due)
@@ -159,11 +154,11 @@ pub record EachOnce : Type 0 where
   pub shared-shown-deed : (m : Module) (data1 : ℕ) (p : Properties) → Only (λ (r : Deed). r ≡ shown_deed m data1 p)
   pub shared-shared-deed : (m : Module) (q : Request) (d : List ℕ) (n : ℕ) (command : Command) → Only (λ (r : Deed). r ≡ shared_deed m q d n command)
   pub dimmer-entry-of : (lamp : Lamp) (q : Request) (d : List ℕ) (command : Command) → Only (λ (r : LampEntry). r ≡ dimmer.entry_of lamp q d command)
-  pub dimmer-group-of : (lamp : Lamp) (command : GroupCommand) (link : Link) → Only (λ (r : LampGroup). r ≡ dimmer-groups.group_of lamp command link)
+  pub dimmer-group-of : (lamp : Lamp) (command : GroupCommand) (link : Link) → Only (λ (r : Option Lamp). r ≡ dimmer-groups.group_of lamp command link)
   pub outlet-entry-of : (sockets : Sockets) (q : Request) (d : List ℕ) (command : Command)
       → Only (λ (r : SocketsEntry). r ≡ outlet.entry_of sockets q d command)
   pub outlet-group-of : (sockets : Sockets) (command : GroupCommand) (link : Link)
-      → Only (λ (r : SocketsGroup). r ≡ outlet-groups.group_of sockets command link)
+      → Only (λ (r : Option Sockets). r ≡ outlet-groups.group_of sockets command link)
   pub decide-ruling-by : (m : Module) (l : List ℕ) (message : Message) → Only (λ (r : Ruling). r ≡ ruling_by m l message)
   pub device-step : (m : Module) (l s room : List ℕ) → Only (λ (d : Called). StepPromise m l s room d.answer d.links d.room)
   pub device-serve : (m : Module) (l : List ℕ) (heard : Message) (room : List ℕ)

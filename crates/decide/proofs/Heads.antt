@@ -1,5 +1,6 @@
 -- Every reply begins with a standard message, an ACK or a NAK, with the hops of its request.
 use Prim.Native.Nat.{ℕ}
+use Rattle.std.specs.Prelude.{Option, Some, None}
 use mathlib.Core.Path.{◌≡◌, refl}
 use mathlib.Core.Bool.{false, ◌||◌}
 use mathlib.Core.List.{List}
@@ -23,10 +24,10 @@ use Rattle.links.proofs.Following.{by_found}
 use Rattle.reply.specs.declared.due.ReplyType.{ReplyType}
 use Rattle.reply.specs.Message.{type_bits}
 use Rattle.reply.proofs.Messages.{Opens, Begins}
+use Rattle.load.specs.declared.state.Load.{Load}
 use Rattle.module.specs.declared.state.Module.{Module}
 use Rattle.module.specs.declared.deed.Ack.{Ack}
 use Rattle.module.specs.declared.deed.Deed.{Deed}
-use Rattle.module.specs.declared.deed.GroupDeed.{GroupDeed}
 use Rattle.module.specs.declared.plan.Plan.{Plan}
 use Rattle.module.specs.Plan.{headed, due_of, deed_plan}
 use Rattle.decide.specs.declared.rule.Ruling.{Ruling}
@@ -55,14 +56,14 @@ module _ (m : Module) (r : Request) where
   deed_begins (Deed.Written k n) = opened ReplyType.Ack r _ _ refl
   deed_begins Deed.Unlisted = opened ReplyType.Nak r _ _ refl
 
-cleanup_begins : (r : Request) (deed : GroupDeed) → Begun r.hops (cleanup_by r deed)
-cleanup_begins r (GroupDeed.Done load) = opened ReplyType.CleanupAck r _ _ refl
-cleanup_begins r GroupDeed.Unlisted = opened ReplyType.CleanupNak r _ _ refl
+cleanup_begins : (r : Request) (next : Option Load) → Begun r.hops (cleanup_by r next)
+cleanup_begins r (Some load) = opened ReplyType.CleanupAck r _ _ refl
+cleanup_begins r None = opened ReplyType.CleanupNak r _ _ refl
 
 -- a broadcast is not answered
-broadcast_begins : (hops : ℕ) (deed : GroupDeed) → Begun hops (broadcast_by deed)
-broadcast_begins hops (GroupDeed.Done load) = tt
-broadcast_begins hops GroupDeed.Unlisted = tt
+broadcast_begins : (hops : ℕ) (next : Option Load) → Begun hops (broadcast_by next)
+broadcast_begins hops (Some load) = tt
+broadcast_begins hops None = tt
 
 module _ (m : Module) (l d : List ℕ) where
   abbrev Answered : ℕ → MessageKind → Type 0

@@ -1,7 +1,8 @@
 -- No plan makes one kind of module of another: a kind's table has loads of its own kind alone, and nothing else names a load.
 use Prim.Native.Nat.{ℕ, ◌+◌, ◌*◌}
+use Rattle.std.specs.Prelude.{Option, Some, None, option_map}
 use mathlib.Core.Path.{◌≡◌, refl}
-use mathlib.Core.Bool.{Bool, ◌||◌}
+use mathlib.Core.Bool.{◌||◌}
 use mathlib.Core.List.{List}
 use lib.Dec.{eqb}
 use Rattle.std.specs.Prelude.{Result, Ok, Err, Option, Some, None, is_ok}
@@ -30,10 +31,9 @@ use Rattle.load.specs.declared.state.Load.{Load}
 use Rattle.module.specs.declared.state.Module.{Module}
 use Rattle.module.specs.declared.deed.Deed.{Deed}
 use Rattle.module.specs.declared.deed.LoadEntry.{LoadEntry}
-use Rattle.module.specs.declared.deed.GroupDeed.{GroupDeed}
 use Rattle.module.specs.declared.plan.Plan.{Plan}
 use Rattle.module.specs.Change.{apply}
-use Rattle.module.specs.Deed.{limited, grouped_by}
+use Rattle.module.specs.Deed.{limited}
 use Rattle.module.specs.Module.{kind_of}
 use Rattle.module.specs.Plan.{deed_plan}
 use Rattle.shared.specs.Standard.{flag_bytes, flags_told}
@@ -55,9 +55,9 @@ module _ (m : Module) where
   abbrev Same : Plan → Type 0
   Same p = kind_of (apply p.change m).load ≡ kind_of m.load
 
-  abbrev SameGroup : GroupDeed → Type 0
-  SameGroup (GroupDeed.Done load) = kind_of load ≡ kind_of m.load
-  SameGroup GroupDeed.Unlisted = Unit {0}
+  abbrev SameGroup : Option Load → Type 0
+  SameGroup (Some load) = kind_of load ≡ kind_of m.load
+  SameGroup None = Unit {0}
 
   module _ (r : Request) (d : List ℕ) (n : ℕ) where
     abbrev SameDeed : Deed → Type 0
@@ -119,21 +119,21 @@ module _ (m : Module) where
         let own : LoadEntry = entry_by m.load r d command in
         either Same (needs_no_link command || is_ok found) (by-entry command own.load own.entry (own_kind m.load r d command)) refl
 
-  grouped_same : (load : Load) (is_listed : Bool) → kind_of load ≡ kind_of m.load → SameGroup (grouped_by load is_listed)
-  unfolding grouped_by
-  grouped_same load is_listed e = either SameGroup is_listed e tt
+  grouped_same : {A : Type 0} (load : A → Load) → ((x : A) → kind_of (load x) ≡ kind_of m.load) → (next : Option A) → SameGroup (option_map load next)
+  grouped_same load e (Some x) = e x
+  grouped_same load e None = tt
 
   group_same : (load : Load) (command : GroupCommand) (link : Link) → kind_of load ≡ kind_of m.load → SameGroup (group_deed_by load command link)
-  group_same (Load.Dimmer lamp) command link e = grouped_same _ _ e
-  group_same (Load.Outlet sockets) command link e = grouped_same _ _ e
+  group_same (Load.Dimmer lamp) command link e = grouped_same Load.Dimmer (λ _. e) _
+  group_same (Load.Outlet sockets) command link e = grouped_same Load.Outlet (λ _. e) _
 
-  broadcast_same : (deed : GroupDeed) → SameGroup deed → Same (broadcast_by deed)
-  broadcast_same (GroupDeed.Done load) e = e
-  broadcast_same GroupDeed.Unlisted e = refl
+  broadcast_same : (next : Option Load) → SameGroup next → Same (broadcast_by next)
+  broadcast_same (Some load) e = e
+  broadcast_same None e = refl
 
-  cleanup_same : (r : Request) (deed : GroupDeed) → SameGroup deed → Same (cleanup_by r deed)
-  cleanup_same r (GroupDeed.Done load) e = e
-  cleanup_same r GroupDeed.Unlisted e = refl
+  cleanup_same : (r : Request) (next : Option Load) → SameGroup next → Same (cleanup_by r next)
+  cleanup_same r (Some load) e = e
+  cleanup_same r None e = refl
 
   plan_same : (kind : MessageKind) (d : List ℕ) (n : ℕ) (found : Result Link Missing) → Same (plan_of m kind d n found)
   plan_same (MessageKind.Direct r command) d n found = direct-same r d n command found

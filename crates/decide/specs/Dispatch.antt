@@ -1,5 +1,5 @@
 -- What a command comes to by the module's load: the one place that names a kind.
-use Rattle.std.specs.Prelude.{ℕ, List}
+use Rattle.std.specs.Prelude.{ℕ, Option, option_map, List}
 use Rattle.wire.specs.declared.request.Request.{Request}
 use Rattle.wire.specs.declared.command.Command.{Command}
 use Rattle.wire.specs.declared.command.GroupCommand.{GroupCommand}
@@ -11,16 +11,13 @@ use Rattle.module.specs.declared.state.Module.{Module}
 use Rattle.module.specs.declared.change.Change.{Change}
 use Rattle.module.specs.declared.deed.Deed.{Deed}
 use Rattle.module.specs.declared.deed.LoadEntry.{LoadEntry}
-use Rattle.module.specs.declared.deed.GroupDeed.{GroupDeed}
-use Rattle.module.specs.Deed.{acked, showing, grouped_by}
+use Rattle.module.specs.Deed.{acked, showing}
 use Rattle.shared.specs.Extended.{shown_deed}
 use Rattle.shared.specs.Table.{shared_deed}
 use Rattle.dimmer.specs.declared.lamp.LampEntry.{LampEntry}
-use Rattle.dimmer.specs.declared.groups.LampGroup.{LampGroup}
 use Rattle.dimmer.specs.Table as dimmer
 use Rattle.dimmer.specs.Groups as dimmer-groups
 use Rattle.outlet.specs.declared.sockets.SocketsEntry.{SocketsEntry}
-use Rattle.outlet.specs.declared.groups.SocketsGroup.{SocketsGroup}
 use Rattle.outlet.specs.Table as outlet
 use Rattle.outlet.specs.Groups as outlet-groups
 
@@ -49,13 +46,7 @@ own_deed m r d n command x = deed_by m r d n command x.load x.entry
 abbrev pub deed_of : Module → Request → List ℕ → ℕ → Command → Deed
 deed_of m r d n command = own_deed m r d n command (entry_by m.load r d command)
 
--- by the deciding record
-abbrev pub lamp_group : LampGroup → GroupDeed
-lamp_group x = grouped_by (Load.Dimmer x.lamp) x.is_listed
-
-abbrev pub sockets_group : SocketsGroup → GroupDeed
-sockets_group x = grouped_by (Load.Outlet x.sockets) x.is_listed
-
-abbrev pub group_deed_by : Load → GroupCommand → Link → GroupDeed
-group_deed_by (Load.Dimmer lamp) command link = lamp_group (dimmer-groups.group_of lamp command link)
-group_deed_by (Load.Outlet sockets) command link = sockets_group (outlet-groups.group_of sockets command link)
+-- the load afterwards, where the deciding record fits a row of the kind
+abbrev pub group_deed_by : Load → GroupCommand → Link → Option Load
+group_deed_by (Load.Dimmer lamp) command link = option_map Load.Dimmer (dimmer-groups.group_of lamp command link)
+group_deed_by (Load.Outlet sockets) command link = option_map Load.Outlet (outlet-groups.group_of sockets command link)

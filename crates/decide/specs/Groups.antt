@@ -1,5 +1,5 @@
 -- "Groups".
-use Rattle.std.specs.Prelude.{Bool, false, ◌&&◌, eqb, Result}
+use Rattle.std.specs.Prelude.{Bool, false, ◌&&◌, eqb, Result, Option, Some, None}
 use Rattle.wire.specs.declared.address.Address.{Address}
 use Rattle.wire.specs.declared.request.Request.{Request}
 use Rattle.wire.specs.declared.command.GroupCommand.{GroupCommand}
@@ -11,7 +11,6 @@ use Rattle.reply.specs.declared.due.Due.{Due}
 use Rattle.results.specs.declared.Outcome.{Outcome}
 use Rattle.load.specs.declared.state.Load.{Load}
 use Rattle.module.specs.declared.change.Change.{Change}
-use Rattle.module.specs.declared.deed.GroupDeed.{GroupDeed}
 use Rattle.module.specs.declared.plan.Plan.{Plan}
 use Rattle.module.specs.Plan.{headed, done, refused, unlinked, unlisted}
 use Rattle.decide.specs.Dispatch.{group_deed_by}
@@ -27,17 +26,17 @@ abbrev pub unconcerned : Plan
 unconcerned = refused Outcome.Unconcerned Due.Nothing
 
 -- a broadcast is never answered
-abbrev pub broadcast_by : GroupDeed → Plan
-broadcast_by (GroupDeed.Done load) = done (Change.Load load) Due.Nothing
-broadcast_by GroupDeed.Unlisted = unconcerned
+abbrev pub broadcast_by : Option Load → Plan
+broadcast_by (Some load) = done (Change.Load load) Due.Nothing
+broadcast_by None = unconcerned
 
 abbrev pub broadcast_plan : Load → GroupCommand → Result Link Missing → Plan
 broadcast_plan load command found = if_found found (λ link. broadcast_by (group_deed_by load command link)) unconcerned
 
 -- a cleanup is ACKed with both commands; no record gives 6, then Command 1 outside 11 to 14 gives 7
-abbrev pub cleanup_by : Request → GroupDeed → Plan
-cleanup_by r (GroupDeed.Done load) = done (Change.Load load) (Due.Alone (headed ReplyType.CleanupAck r r.command1 r.command2))
-cleanup_by r GroupDeed.Unlisted = unlisted ReplyType.CleanupNak r
+abbrev pub cleanup_by : Request → Option Load → Plan
+cleanup_by r (Some load) = done (Change.Load load) (Due.Alone (headed ReplyType.CleanupAck r r.command1 r.command2))
+cleanup_by r None = unlisted ReplyType.CleanupNak r
 
 abbrev pub cleanup_plan : Load → Request → GroupCommand → Result Link Missing → Plan
 cleanup_plan load r command found = if_found found (λ link. cleanup_by r (group_deed_by load command link)) (unlinked ReplyType.CleanupNak r)

@@ -6,7 +6,7 @@ use links::memory::Link;
 use load::entry::Entry;
 use load::state::Load;
 use module::change::Change;
-use module::deed::{Deed, GroupDeed, LoadEntry, acked, grouped_by, showing};
+use module::deed::{Deed, LoadEntry, acked, showing};
 use module::state::Module;
 use shared::properties::shown_deed;
 use shared::table::shared_deed;
@@ -62,20 +62,12 @@ fn entry_by(load: Load, r: Request, data: [u8; 14], command: Command) -> LoadEnt
     }
 }
 
-// A group's command, by its deciding record.
-pub(crate) fn group_deed_by(load: Load, command: GroupCommand, link: Link) -> GroupDeed
+// The load after a group's command, where its deciding record fits a row.
+pub(crate) fn group_deed_by(load: Load, command: GroupCommand, link: Link) -> Option<Load>
     ensures { result ≡ group_deed_by load command link }
 {
     match load {
-        Load::Dimmer(lamp) => {
-            let x = dimmer::groups::group_of(lamp, command, link);
-            let next = x.lamp;
-            grouped_by(Load::Dimmer(next), x.is_listed)
-        }
-        Load::Outlet(sockets) => {
-            let x = outlet::groups::group_of(sockets, command, link);
-            let next = x.sockets;
-            grouped_by(Load::Outlet(next), x.is_listed)
-        }
+        Load::Dimmer(lamp) => dimmer::groups::group_of(lamp, command, link).map(Load::Dimmer),
+        Load::Outlet(sockets) => outlet::groups::group_of(sockets, command, link).map(Load::Outlet),
     }
 }

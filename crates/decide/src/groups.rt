@@ -7,7 +7,6 @@ use links::memory::Link;
 use links::search::Missing;
 use load::state::Load;
 use module::change::Change;
-use module::deed::GroupDeed;
 use module::plan::{Plan, done, headed, refused, unlinked, unlisted};
 use reply::due::{Due, ReplyType};
 use results::Outcome;
@@ -35,12 +34,13 @@ pub(crate) fn broadcast_plan(load: Load, command: GroupCommand, found: Result<Li
     }
 }
 
-fn broadcast_by(deed: GroupDeed) -> Plan
-    ensures { result ≡ broadcast_by deed }
+// By the load afterwards, where the record fits a row.
+fn broadcast_by(next: Option<Load>) -> Plan
+    ensures { result ≡ broadcast_by next }
 {
-    match deed {
-        GroupDeed::Done(load) => done(Change::Load(load), Due::Nothing),
-        GroupDeed::Unlisted => unconcerned(),
+    match next {
+        Some(load) => done(Change::Load(load), Due::Nothing),
+        None => unconcerned(),
     }
 }
 
@@ -60,14 +60,14 @@ pub(crate) fn cleanup_plan(load: Load, r: Request, command: GroupCommand, found:
     }
 }
 
-fn cleanup_by(r: Request, deed: GroupDeed) -> Plan
-    ensures { result ≡ cleanup_by r deed }
+fn cleanup_by(r: Request, next: Option<Load>) -> Plan
+    ensures { result ≡ cleanup_by r next }
 {
-    match deed {
-        GroupDeed::Done(load) => done(
+    match next {
+        Some(load) => done(
             Change::Load(load),
             Due::Alone(headed(ReplyType::CleanupAck, r, r.command1, r.command2)),
         ),
-        GroupDeed::Unlisted => unlisted(ReplyType::CleanupNak, r),
+        None => unlisted(ReplyType::CleanupNak, r),
     }
 }

@@ -6,34 +6,19 @@ use links::memory::Link;
 use load::state::Lamp;
 use wire::command::GroupCommand;
 
-// The lamp afterwards, and whether the record fits a row.
-#[derive(Clone, Copy)]
-pub struct LampGroup {
-    pub lamp: Lamp,
-    pub is_listed: bool,
-}
-
-pub fn group_of(lamp: Lamp, command: GroupCommand, link: Link) -> LampGroup
+// The lamp afterwards, where the record fits a row.
+pub fn group_of(lamp: Lamp, command: GroupCommand, link: Link) -> Option<Lamp>
     ensures { result ≡ group_of lamp command link }
 {
     match command {
-        GroupCommand::On => LampGroup {
-            lamp: Lamp {
-                level: link.d1,
-                ..lamp
-            },
-            is_listed: true,
-        },
-        GroupCommand::Off => LampGroup {
-            lamp: Lamp {
-                level: 0x00,
-                ..lamp
-            },
-            is_listed: true,
-        },
-        GroupCommand::Unlisted => LampGroup {
-            lamp: lamp,
-            is_listed: false,
-        },
+        GroupCommand::On => Some(Lamp {
+            level: link.d1,
+            ..lamp
+        }),
+        GroupCommand::Off => Some(Lamp {
+            level: 0x00,
+            ..lamp
+        }),
+        GroupCommand::Unlisted => None,
     }
 }

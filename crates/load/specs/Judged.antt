@@ -1,5 +1,5 @@
 -- What a kind's own table has to show beside its rows.
-use Rattle.std.specs.Prelude.{ℕ, ◌≡◌, Bool, false, List}
+use Rattle.std.specs.Prelude.{ℕ, ◌≡◌, Option, Some, None, List}
 use Rattle.wire.specs.declared.command.Standard.{Standard}
 use Rattle.wire.specs.declared.command.OpenCommand.{OpenCommand}
 use Rattle.wire.specs.declared.command.ModuleCommand.{ModuleCommand}
@@ -24,6 +24,6 @@ pub record Leaves (s : List ℕ) (entry : Command → Entry) : Type 0 where
   pub database : entry (Command.Extended Extended.Database) ≡ Entry.Shared
 
 -- and of a group's record: the load afterwards is a row, or no row fits
-pub data GroupJudged {A : Type 0} (Row : A → Type 0) (load : A) (is_listed : Bool) : Type 0 where
-  is_row : Row load → GroupJudged Row load is_listed
-  no_row : is_listed ≡ false → GroupJudged Row load is_listed
+pub data GroupJudged {A : Type 0} (Row : A → Type 0) : Option A → Type 0 where
+  is_row : (load : A) → Row load → GroupJudged Row (Some load)
+  no_row : GroupJudged Row None

@@ -1,12 +1,10 @@
 -- What a direct command that is looked at comes to: carried out and ACKed, or not listed.
-use Rattle.std.specs.Prelude.{ℕ, Bool}
+use Rattle.std.specs.Prelude.{ℕ}
 use Rattle.basis.specs.Choice.{choose}
 use Rattle.basis.specs.Numbers.{within}
-use Rattle.load.specs.declared.state.Load.{Load}
 use Rattle.module.specs.declared.change.Change.{Change}
 use Rattle.module.specs.declared.deed.Ack.{Ack}
 use Rattle.module.specs.declared.deed.Deed.{Deed}
-use Rattle.module.specs.declared.deed.GroupDeed.{GroupDeed}
 
 -- the ACK repeats both commands
 abbrev pub acked : Change → Deed
@@ -23,7 +21,3 @@ showing command2 = Deed.Done Change.Nothing (Ack.AfterDelta command2)
 -- listed where the number is one of a to b
 unfoldable pub limited : ℕ → ℕ → ℕ → Deed → Deed
 limited a b x deed = choose (within a b x) deed Deed.Unlisted
-
--- a group's record that fits a row makes this load of the module's
-unfoldable pub grouped_by : Load → Bool → GroupDeed
-grouped_by load is_listed = choose is_listed (GroupDeed.Done load) GroupDeed.Unlisted

@@ -1,6 +1,6 @@
 // What a direct command that is looked at comes to: it is carried out and ACKed, or it is not listed. Nothing else can be said of it.
 ghost use Rattle.std.specs.Prelude.{◌≡◌};
-ghost use Rattle.module.specs.Deed.{acked, telling, showing, limited, grouped_by};
+ghost use Rattle.module.specs.Deed.{acked, telling, showing, limited};
 
 use crate::change::Change;
 use load::entry::Entry;
@@ -39,13 +39,6 @@ pub struct LoadEntry {
     pub entry: Entry,
 }
 
-// What the deciding record of a group brings about: another load, or nothing that the kind lists ("Groups").
-#[derive(Clone, Copy)]
-pub enum GroupDeed {
-    Done(Load),
-    Unlisted,
-}
-
 // Carried out, and ACKed with both commands.
 pub fn acked(change: Change) -> Deed
     ensures { result ≡ acked change }
@@ -75,16 +68,5 @@ pub fn limited(low: u8, high: u8, x: u8, deed: Deed) -> Deed
         deed
     } else {
         Deed::Unlisted
-    }
-}
-
-// The load afterwards, where the record fits a row.
-pub fn grouped_by(load: Load, is_listed: bool) -> GroupDeed
-    ensures { result ≡ grouped_by load is_listed }
-{
-    if is_listed {
-        GroupDeed::Done(load)
-    } else {
-        GroupDeed::Unlisted
     }
 }

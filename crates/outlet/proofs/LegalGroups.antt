@@ -1,5 +1,6 @@
 -- A group's row is what the record does, and a record that fits none is not listed.
 use Prim.Native.Nat.{ℕ}
+use Rattle.std.specs.Prelude.{Option, Some}
 use mathlib.Core.Path.{◌≡◌, refl, ◌∙◌}
 use mathlib.Core.Bool.{Bool, true, false}
 use mathlib.Core.List.{List}
@@ -15,7 +16,6 @@ use Rattle.wire.proofs.Commanded.{Commanded, turns-on, turns-off, neither}
 use Rattle.links.specs.declared.memory.Link.{Link}
 use Rattle.load.specs.Judged.{GroupJudged, is_row, no_row}
 use Rattle.load.specs.declared.state.Sockets.{Sockets}
-use Rattle.outlet.specs.declared.groups.SocketsGroup.{SocketsGroup}
 use Rattle.outlet.specs.Groups.{socket_rows, socket_group, group_of}
 use Rattle.outlet.specs.LegalGroups.{Turns, on, on-at-zero, off, GroupOutlet, top, bottom}
 
@@ -41,18 +41,18 @@ module _ (sockets : Sockets) (s : List ℕ) (link : Link) where
   turned x t command (neither h) = absurd (h (turns_grouped x t))
 
   pub says : (command : GroupCommand) → Commanded (command1_of s) command → (x : Sockets) → GroupOutlet sockets s link x
-      → group_of sockets command link ≡ record { sockets = x; is_listed = true }
+      → group_of sockets command link ≡ Some x
   unfolding socket_group choose
   says command c x (top y a t) = turned y t command c ∙ rw a refl
   says command c x (bottom y a t) = turned y t command c ∙ rw a refl
 
-  abbrev pub Fits : SocketsGroup → Type 0
-  Fits x = GroupJudged (GroupOutlet sockets s link) x.sockets x.is_listed
+  abbrev pub Fits : Option Sockets → Type 0
+  Fits = GroupJudged (GroupOutlet sockets s link)
 
   -- the socket that D3 names, if it names one
   named : (x : Bool) → Turns s link x → Fits (socket_group sockets link.d3 x)
   unfolding socket_group
-  named x t = by_rows Fits link.d3 _ (socket_rows sockets x) ((λ e. is_row (top x e t)) or (λ e. is_row (bottom x e t)) or tt) (no_row refl)
+  named x t = by_rows Fits link.d3 _ (socket_rows sockets x) ((λ e. is_row _ (top x e t)) or (λ e. is_row _ (bottom x e t)) or tt) no_row
 
   pub record Turn : Type 0 where
     pub to : Bool
@@ -73,4 +73,4 @@ module _ (sockets : Sockets) (s : List ℕ) (link : Link) where
       let t = some_turn command (turns-on p q) (p, omega arith) in
       rw (turned t.to t.turns command (turns-on p q)) (named t.to t.turns)
   judged command (turns-off p q) = named false (off p q)
-  judged command (neither none) = no_row refl
+  judged command (neither none) = no_row

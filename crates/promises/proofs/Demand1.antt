@@ -1,5 +1,6 @@
 -- Demand 1, for every module, link memory, message and room of every length.
 use Prim.Native.Nat.{ℕ, ◌≤◌}
+use Rattle.std.specs.Prelude.{Option, Some, None}
 use mathlib.Core.Path.{◌≡◌, refl}
 use mathlib.Core.Bool.{true, false, ◌||◌}
 use mathlib.Core.List.{List}
@@ -29,9 +30,9 @@ use Rattle.reply.specs.declared.due.Due.{Due}
 use Rattle.reply.specs.Reply.{reply_of}
 use Rattle.results.specs.declared.Outcome.{Outcome}
 use Rattle.results.specs.Number.{number_of}
+use Rattle.load.specs.declared.state.Load.{Load}
 use Rattle.module.specs.declared.state.Module.{Module}
 use Rattle.module.specs.declared.deed.Deed.{Deed}
-use Rattle.module.specs.declared.deed.GroupDeed.{GroupDeed}
 use Rattle.module.specs.declared.plan.Plan.{Plan}
 use Rattle.module.specs.Plan.{refused, unlinked, unlisted, deed_plan}
 use Rattle.decide.specs.declared.rule.Ruling.{Ruling}
@@ -55,13 +56,13 @@ deed_fair m r (Deed.Done change ack) = done refl
 deed_fair m r (Deed.Written k n) = done refl
 deed_fair m r Deed.Unlisted = unknown refl
 
-cleanup_fair : (r : Request) (deed : GroupDeed) → Fair ReplyType.CleanupNak r (cleanup_by r deed)
-cleanup_fair r (GroupDeed.Done load) = done refl
-cleanup_fair r GroupDeed.Unlisted = unknown refl
+cleanup_fair : (r : Request) (next : Option Load) → Fair ReplyType.CleanupNak r (cleanup_by r next)
+cleanup_fair r (Some load) = done refl
+cleanup_fair r None = unknown refl
 
-broadcast_fair : (type : ReplyType) (r : Request) (deed : GroupDeed) → Fair type r (broadcast_by deed)
-broadcast_fair type r (GroupDeed.Done load) = done refl
-broadcast_fair type r GroupDeed.Unlisted = mute Outcome.Unconcerned refl refl
+broadcast_fair : (type : ReplyType) (r : Request) (next : Option Load) → Fair type r (broadcast_by next)
+broadcast_fair type r (Some load) = done refl
+broadcast_fair type r None = mute Outcome.Unconcerned refl refl
 
 -- the NAK's type by the message's
 module _ {r : Request} {p : Plan} (s : List ℕ) where

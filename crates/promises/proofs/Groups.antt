@@ -1,5 +1,6 @@
 -- A group command takes its stated effect, and any other is refused as stated.
 use Prim.Native.Nat.{ℕ}
+use Rattle.std.specs.Prelude.{Option, Some, None, is_some, option_map}
 use mathlib.Core.Path.{◌≡◌, refl, sym, ◌∙◌, ap, subst}
 use mathlib.Core.Bool.{Bool, true, false}
 use mathlib.Core.List.{List}
@@ -29,16 +30,14 @@ use Rattle.load.specs.declared.state.Sockets.{Sockets}
 use Rattle.load.specs.declared.state.Load.{Load}
 use Rattle.load.specs.Judged.{GroupJudged, is_row, no_row}
 use Rattle.module.specs.declared.state.Module.{Module}
-use Rattle.module.specs.declared.deed.GroupDeed.{GroupDeed}
 use Rattle.module.specs.Change.{with_load}
-use Rattle.module.specs.Deed.{grouped_by}
 use Rattle.module.specs.Module.{kind_of}
 use Rattle.module.specs.Plan.{unlinked, unlisted}
 use Rattle.dimmer.specs.LegalGroups.{on, off}
 use Rattle.dimmer.proofs.LegalGroups as dimmers
 use Rattle.outlet.specs.LegalGroups.{top, bottom}
 use Rattle.outlet.proofs.LegalGroups as outlets
-use Rattle.decide.specs.Dispatch.{lamp_group, sockets_group, group_deed_by}
+use Rattle.decide.specs.Dispatch.{group_deed_by}
 use Rattle.decide.specs.Groups.{is_call, unconcerned, broadcast_by, broadcast_plan, cleanup_by, cleanup_plan}
 use Rattle.decide.specs.Decide.{sender_in_group}
 use Rattle.decide.specs.Ruling.{ruling_of}
@@ -54,16 +53,8 @@ use Rattle.promises.proofs.Responders.{found_first, found_none, SomeFirst, first
 use Rattle.promises.proofs.GroupRows.{Alters, RowJudged, fits, fits-none}
 
 -- what is carried out is listed, and a dimmer is no outlet
-apart_deeds : {A : Type 0} {load : Load} → GroupDeed.Unlisted ≡ GroupDeed.Done load → A
-apart_deeds e = clash (ap is_listed e) refl
-  where
-    is_listed : GroupDeed → Bool
-    is_listed (GroupDeed.Done load) = true
-    is_listed GroupDeed.Unlisted = false
-
-not_listed : (load : Load) → grouped_by load false ≡ GroupDeed.Unlisted
-unfolding grouped_by choose
-not_listed load = refl
+apart_deeds : {A : Type 0} {load : Load} → ◌≡◌ {A = Option Load} None (Some load) → A
+apart_deeds e = clash (ap is_some e) refl
 
 other_kind : {lamp : Lamp} {sockets : Sockets} → Load.Dimmer lamp ≡ Load.Outlet sockets → ⊥
 other_kind e = let z : ◌≡◌ {A = ℕ} 1 2 = ap kind_of e in omega arith
@@ -77,13 +68,12 @@ module _ (m : Module) (s : List ℕ) (link : Link) where
   AltersBy next load = Alters m next (group_deed_by load command link)
 
   pub alters : (next : Module) → GroupLegal m s link next → Alters m next (group_deed_by m.load command link)
-  unfolding grouped_by choose
   alters _ (dimmer lamp x is row) =
       let says = dimmers.says lamp s link command (commanded (command1_of s)) x row in
-      subst (AltersBy (with_load (Load.Dimmer x) m)) (sym is) (record { load = Load.Dimmer x; done = ap lamp_group says; next = refl })
+      subst (AltersBy (with_load (Load.Dimmer x) m)) (sym is) (record { load = Load.Dimmer x; done = ap (option_map Load.Dimmer) says; next = refl })
   alters _ (outlet sockets x is row) =
       let says = outlets.says sockets s link command (commanded (command1_of s)) x row in
-      subst (AltersBy (with_load (Load.Outlet x) m)) (sym is) (record { load = Load.Outlet x; done = ap sockets_group says; next = refl })
+      subst (AltersBy (with_load (Load.Outlet x) m)) (sym is) (record { load = Load.Outlet x; done = ap (option_map Load.Outlet) says; next = refl })
 
   grouped : (next : Module) → GroupLegal m s link next → GroupCommand1 s
   grouped _ (dimmer lamp x is row) = dimmers.grouped lamp s link x row
@@ -93,21 +83,21 @@ module _ (m : Module) (s : List ℕ) (link : Link) where
   row_judged : RowJudged (GroupLegal m s link) (group_deed_by m.load command link)
   row_judged = by_kind m.load refl
     where
-      of_kind : {A : Type 0} (Row : A → Type 0) (load : A → Load) (x : A) (is_listed : Bool)
-          → ((next : A) → Row next → GroupLegal m s link (with_load (load next) m))
-          → GroupJudged Row x is_listed → RowJudged (GroupLegal m s link) (grouped_by (load x) is_listed)
-      of_kind Row load x is_listed row (is_row h) = fits _ (row x h)
-      of_kind Row load x is_listed row (no_row p) = fits-none (ap (grouped_by (load x)) p ∙ not_listed (load x))
+      of_kind : {A : Type 0} (Row : A → Type 0) (load : A → Load) (next : Option A)
+          → ((x : A) → Row x → GroupLegal m s link (with_load (load x) m))
+          → GroupJudged Row next → RowJudged (GroupLegal m s link) (option_map load next)
+      of_kind Row load _ row (is_row x h) = fits _ (row x h)
+      of_kind Row load _ row no_row = fits-none refl
 
       by_kind : (load : Load) → m.load ≡ load → RowJudged (GroupLegal m s link) (group_deed_by load command link)
-      by_kind (Load.Dimmer lamp) is = of_kind _ Load.Dimmer _ _ (λ next x. dimmer lamp next is x) (dimmers.judged lamp s link command (commanded (command1_of s)))
-      by_kind (Load.Outlet sockets) is = of_kind _ Load.Outlet _ _ (λ next x. outlet sockets next is x) (outlets.judged sockets s link command (commanded (command1_of s)))
+      by_kind (Load.Dimmer lamp) is = of_kind _ Load.Dimmer _ (λ next x. dimmer lamp next is x) (dimmers.judged lamp s link command (commanded (command1_of s)))
+      by_kind (Load.Outlet sockets) is = of_kind _ Load.Outlet _ (λ next x. outlet sockets next is x) (outlets.judged sockets s link command (commanded (command1_of s)))
 
   -- so where none fits, it is not listed
-  pub unlisted_deed : NoRow m s link → group_deed_by m.load command link ≡ GroupDeed.Unlisted
+  pub unlisted_deed : NoRow m s link → group_deed_by m.load command link ≡ None
   unlisted_deed none = go row_judged
     where
-      go : {deed : GroupDeed} → RowJudged (GroupLegal m s link) deed → deed ≡ GroupDeed.Unlisted
+      go : {deed : Option Load} → RowJudged (GroupLegal m s link) deed → deed ≡ None
       go (fits next x) = absurd (none next x)
       go (fits-none p) = p
 
@@ -216,7 +206,7 @@ module _ (m : Module) (l s : List ℕ) (f : is_fit l ≡ true) (w : well_formed 
     ruled-no-responder h = ruled-cleanup ∙ found_none l (from_of s) (command2_of s) _ (unlinked ReplyType.CleanupNak (request_of s)) h
 
 -- what a row brings about
-module _ (m : Module) (l s : List ℕ) (next : Module) (deed : GroupDeed) (a : Alters m next deed) where
+module _ (m : Module) (l s : List ℕ) (next : Module) (deed : Option Load) (a : Alters m next deed) where
   pub broadcast_brings : Brings m l s (broadcast_effect l next) (broadcast_by deed)
   broadcast_brings = rw a.done (record { done = refl; next = a.next; links = refl; reply = refl })
 

@@ -1,5 +1,6 @@
 -- Flags, LED, ramp rate and on level steer nothing, and hops are not read.
 use Prim.Native.Nat.{ℕ, ◌+◌, ◌*◌, ◌/◌, ◌%◌}
+use Rattle.std.specs.Prelude.{Option, Some, None, option_map}
 use mathlib.Core.Path.{◌≡◌, refl, sym, ap, subst}
 use mathlib.Core.Bool.{Bool, true, false, ◌||◌}
 use mathlib.Core.List.{List, ◌∷◌}
@@ -34,16 +35,16 @@ use Rattle.reply.specs.Reply.{reply_of}
 use Rattle.results.specs.declared.Outcome.{Outcome}
 use Rattle.results.specs.Number.{number_of}
 use Rattle.load.specs.declared.entry.Entry.{Entry}
+use Rattle.load.specs.declared.state.Sockets.{Sockets}
 use Rattle.load.specs.declared.state.Load.{Load}
 use Rattle.load.specs.Alike.{Alike, same, shown}
 use Rattle.module.specs.declared.state.Module.{Module}
 use Rattle.module.specs.declared.change.Change.{Change}
 use Rattle.module.specs.declared.deed.Deed.{Deed}
 use Rattle.module.specs.declared.deed.LoadEntry.{LoadEntry}
-use Rattle.module.specs.declared.deed.GroupDeed.{GroupDeed}
 use Rattle.module.specs.declared.plan.Plan.{Plan}
 use Rattle.module.specs.Change.{with_led, with_x10, with_load, apply}
-use Rattle.module.specs.Deed.{acked, telling, limited, grouped_by}
+use Rattle.module.specs.Deed.{acked, telling, limited}
 use Rattle.module.specs.Plan.{refused, deed_plan}
 use Rattle.shared.specs.Standard.{flags_told}
 use Rattle.shared.specs.Extended.{property_deed, properties_deed, get_deed, set_deed, record_deed, database_deed}
@@ -187,27 +188,25 @@ module _ (m : Module) (flags led ramp level : ℕ) (l d : List ℕ) where
     direct-alike command found = beside Same (needs_no_link command || is_ok found) (answers-both command m.load) (none Outcome.NotLinked _)
 
   -- what a record does to both
-  data BothGroups : GroupDeed → GroupDeed → Type 0 where
-    both-done : (x y : Load) → Loads x y → BothGroups (GroupDeed.Done x) (GroupDeed.Done y)
-    both-unlisted : BothGroups GroupDeed.Unlisted GroupDeed.Unlisted
-
-  grouped_both : (x y : Load) (is_listed : Bool) → Loads x y → BothGroups (grouped_by x is_listed) (grouped_by y is_listed)
-  unfolding grouped_by
-  grouped_both x y is_listed h = beside BothGroups is_listed (both-done x y h) both-unlisted
+  data BothGroups : Option Load → Option Load → Type 0 where
+    both-done : (x y : Load) → Loads x y → BothGroups (Some x) (Some y)
+    both-unlisted : BothGroups None None
 
   group_alike : (load : Load) (command : GroupCommand) (link : Link) → BothGroups (group_deed_by load command link) (group_deed_by (with_rates ramp level load) command link)
-  group_alike (Load.Dimmer lamp) GroupCommand.On link = grouped_both _ _ true (record { rate = ramp; on = level; rest = refl })
-  group_alike (Load.Dimmer lamp) GroupCommand.Off link = grouped_both _ _ true (record { rate = ramp; on = level; rest = refl })
-  group_alike (Load.Dimmer lamp) GroupCommand.Unlisted link = grouped_both _ _ false (record { rate = ramp; on = level; rest = refl })
-  group_alike (Load.Outlet sockets) command link =
-      let x = group_of sockets command link in
-      grouped_both (Load.Outlet x.sockets) (Load.Outlet x.sockets) x.is_listed (record { rate = 0; on = 0; rest = refl })
+  group_alike (Load.Dimmer lamp) GroupCommand.On link = both-done _ _ (record { rate = ramp; on = level; rest = refl })
+  group_alike (Load.Dimmer lamp) GroupCommand.Off link = both-done _ _ (record { rate = ramp; on = level; rest = refl })
+  group_alike (Load.Dimmer lamp) GroupCommand.Unlisted link = both-unlisted
+  group_alike (Load.Outlet sockets) command link = go (group_of sockets command link)
+    where
+      go : (next : Option Sockets) → BothGroups (option_map Load.Outlet next) (option_map Load.Outlet next)
+      go (Some x) = both-done _ _ (record { rate = 0; on = 0; rest = refl })
+      go None = both-unlisted
 
-  cleaned_alike : (r : Request) (a b : GroupDeed) → BothGroups a b → Same (cleanup_by r a) (cleanup_by r b)
+  cleaned_alike : (r : Request) (a b : Option Load) → BothGroups a b → Same (cleanup_by r a) (cleanup_by r b)
   cleaned_alike r a b (both-done x y h) = record { number = refl; next = loads_besides x y h; links = refl; due = refl }
   cleaned_alike r a b both-unlisted = none Outcome.Unlisted _
 
-  called_alike : (a b : GroupDeed) → BothGroups a b → Same (broadcast_by a) (broadcast_by b)
+  called_alike : (a b : Option Load) → BothGroups a b → Same (broadcast_by a) (broadcast_by b)
   called_alike a b (both-done x y h) = record { number = refl; next = loads_besides x y h; links = refl; due = refl }
   called_alike a b both-unlisted = none Outcome.Unconcerned Due.Nothing
 

@@ -127,7 +127,7 @@ fn find_functions(crate_name: &str, text: &str, found: &mut Vec<Function>) {
     for start in ["pub fn ", "pub extern \"C\" fn "] {
         for (at, _) in text.match_indices(start) {
             let rest = &text[at + start.len()..];
-            let name = &rest[..rest.find('(').expect("a function has parameters")];
+            let name = &rest[..rest.find(['(', '<']).expect("a function has parameters")];
             let head = head_of(rest);
             let promised = words(promise_in(head));
             found.push(Function {

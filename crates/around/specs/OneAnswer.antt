@@ -27,10 +27,13 @@ use Rattle.reply.specs.Sending.{Sending}
 use Rattle.results.specs.declared.Outcome.{Outcome}
 use Rattle.results.specs.Number.{number_of}
 use Rattle.module.specs.declared.state.Identity.{Identity}
+use Rattle.load.specs.declared.entry.Entry.{Entry}
+use Rattle.load.specs.declared.entry.LoadEntry.{LoadEntry}
 use Rattle.load.specs.declared.entry.Properties.{Properties}
 use Rattle.load.specs.declared.state.Lamp.{Lamp}
 use Rattle.load.specs.declared.state.Sockets.{Sockets}
-use Rattle.load.specs.Fresh.{fresh_lamp, fresh_sockets}
+use Rattle.load.specs.Answer.{becomes, stays}
+use Rattle.load.specs.Table.{Own, entry_of}
 use Rattle.module.specs.declared.state.Module.{Module}
 use Rattle.module.specs.declared.change.Change.{Change}
 use Rattle.module.specs.declared.deed.Deed.{Deed}
@@ -41,11 +44,7 @@ use Rattle.module.specs.Deed
 use Rattle.module.specs.Plan
 use Rattle.shared.specs.Extended.{shown_deed}
 use Rattle.shared.specs.Table.{shared_deed}
-use Rattle.dimmer.specs.declared.lamp.LampEntry.{LampEntry}
-use Rattle.dimmer.specs.Table as dimmer
 use Rattle.dimmer.specs.Groups as dimmer-groups
-use Rattle.outlet.specs.declared.sockets.SocketsEntry.{SocketsEntry}
-use Rattle.outlet.specs.Table as outlet
 use Rattle.outlet.specs.Groups as outlet-groups
 use Rattle.decide.specs.declared.rule.Ruling.{Ruling}
 use Rattle.decide.specs.Ruling.{ruling_by}
@@ -115,7 +114,7 @@ pub record HeedCalled : Type 0 where
   pub room : List ℕ
 
 -- every public function by its crate and its name, lowest first
-pub record EachOnce : Type 0 where
+pub record EachOnce : Type 1 where
   pub basis-lay : (room bytes : List ℕ) → Only (λ (after : List ℕ). after ≡ laid_if_fits room bytes)
   pub basis-min : (a b : ℕ) → Only (λ (r : ℕ). r ≡ min a b)
   pub wire-read : (s : List ℕ) (own : Address) → Only (ReadPromise s own)
@@ -135,8 +134,12 @@ pub record EachOnce : Type 0 where
   pub reply-send : (own : Address) (l : List ℕ) (due : Due) (room : List ℕ)
       → Only (λ (d : Delivered). Sending (reply_of own l due) room d.answer d.room)
   pub results-number : (o : Outcome) → Only (λ (r : ℕ). r ≡ number_of o)
-  pub load-fresh-lamp : Only (λ (r : Lamp). r ≡ fresh_lamp)
-  pub load-fresh-sockets : Only (λ (r : Sockets). r ≡ fresh_sockets)
+  -- of a load of each type
+  pub load-becomes : (L : Type 0) (load : L) → Only (λ (r : LoadEntry L). r ≡ becomes load)
+  pub load-stays : (L : Type 0) (load : L) (entry : Entry) → Only (λ (r : LoadEntry L). r ≡ stays load entry)
+  -- and of a kind of each, by what is its own
+  pub load-entry-of : (L : Type 0) (own : Own L) (load : L) (q : Request) (d : List ℕ) (command : Command)
+      → Only (λ (r : LoadEntry L). r ≡ entry_of own load q d command)
   pub module-fresh-dimmer : (i : Identity) → Only (λ (r : Module). r ≡ fresh_dimmer i)
   pub module-fresh-outlet : (i : Identity) → Only (λ (r : Module). r ≡ fresh_outlet i)
   pub module-apply : (m : Module) (change : Change) → Only (λ (r : Module). r ≡ apply change m)
@@ -153,10 +156,7 @@ pub record EachOnce : Type 0 where
   pub module-deed-plan : (m : Module) (q : Request) (deed : Deed) → Only (λ (r : Plan). r ≡ Plan.deed_plan m q deed)
   pub shared-shown-deed : (m : Module) (data1 : ℕ) (p : Properties) → Only (λ (r : Deed). r ≡ shown_deed m data1 p)
   pub shared-shared-deed : (m : Module) (q : Request) (d : List ℕ) (n : ℕ) (command : Command) → Only (λ (r : Deed). r ≡ shared_deed m q d n command)
-  pub dimmer-entry-of : (lamp : Lamp) (q : Request) (d : List ℕ) (command : Command) → Only (λ (r : LampEntry). r ≡ dimmer.entry_of lamp q d command)
   pub dimmer-group-of : (lamp : Lamp) (command : GroupCommand) (link : Link) → Only (λ (r : Option Lamp). r ≡ dimmer-groups.group_of lamp command link)
-  pub outlet-entry-of : (sockets : Sockets) (q : Request) (d : List ℕ) (command : Command)
-      → Only (λ (r : SocketsEntry). r ≡ outlet.entry_of sockets q d command)
   pub outlet-group-of : (sockets : Sockets) (command : GroupCommand) (link : Link)
       → Only (λ (r : Option Sockets). r ≡ outlet-groups.group_of sockets command link)
   pub decide-ruling-by : (m : Module) (l : List ℕ) (message : Message) → Only (λ (r : Ruling). r ≡ ruling_by m l message)

@@ -27,10 +27,10 @@ use Rattle.links.specs.Name.{place_of}
 use Rattle.links.specs.Search.{search_of}
 use Rattle.links.proofs.Following.{by_found}
 use Rattle.load.specs.declared.entry.Entry.{Entry}
+use Rattle.load.specs.declared.entry.LoadEntry.{LoadEntry}
 use Rattle.load.specs.declared.state.Load.{Load}
 use Rattle.module.specs.declared.state.Module.{Module}
 use Rattle.module.specs.declared.deed.Deed.{Deed}
-use Rattle.module.specs.declared.deed.LoadEntry.{LoadEntry}
 use Rattle.module.specs.declared.plan.Plan.{Plan}
 use Rattle.module.specs.Change.{apply}
 use Rattle.module.specs.Deed.{limited}
@@ -116,7 +116,7 @@ module _ (m : Module) where
     direct-same : (command : Command) (found : Result Link Missing) → Same (direct_plan m r d n command found)
     unfolding direct_plan
     direct-same command found =
-        let own : LoadEntry = entry_by m.load r d command in
+        let own : LoadEntry Load = entry_by m.load r d command in
         either Same (needs_no_link command || is_ok found) (by-entry command own.load own.entry (own_kind m.load r d command)) refl
 
   grouped_same : {A : Type 0} (load : A → Load) → ((x : A) → kind_of (load x) ≡ kind_of m.load) → (next : Option A) → SameGroup (option_map load next)

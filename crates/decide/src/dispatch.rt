@@ -2,12 +2,15 @@
 ghost use Rattle.std.specs.Prelude.{◌≡◌};
 ghost use Rattle.decide.specs.Dispatch.{entry_by, deed_by, deed_of, group_deed_by};
 
+use dimmer::table::Dimmer;
 use links::memory::Link;
-use load::entry::Entry;
+use load::entry::{Entry, LoadEntry};
 use load::state::Load;
+use load::table::entry_of;
 use module::change::Change;
-use module::deed::{Deed, LoadEntry, acked, showing};
+use module::deed::{Deed, acked, showing};
 use module::state::Module;
+use outlet::table::Outlet;
 use shared::properties::shown_deed;
 use shared::table::shared_deed;
 use wire::command::{Command, GroupCommand};
@@ -23,12 +26,9 @@ pub(crate) fn deed_of(
 ) -> Deed
     ensures { result ≡ deed_of m r «data» records command }
 {
-    let load = m.load;
-    let own = entry_by(load, r, data, command);
-    let next = own.load;
-    let entry = own.entry;
-    match entry {
-        Entry::Done => acked(Change::Load(next)),
+    let own = entry_by(m.load, r, data, command);
+    match own.entry {
+        Entry::Done => acked(Change::Load(own.load)),
         Entry::Shows(x) => showing(x),
         Entry::Shown(p) => shown_deed(m, data[0], p),
         Entry::Shared => shared_deed(m, r, data, records, command),
@@ -37,28 +37,26 @@ pub(crate) fn deed_of(
 }
 
 // What the kind's own table has for it.
-fn entry_by(load: Load, r: Request, data: [u8; 14], command: Command) -> LoadEntry
+fn entry_by(load: Load, r: Request, data: [u8; 14], command: Command) -> LoadEntry<Load>
     ensures { result ≡ entry_by load r «data» command }
 {
     match load {
-        Load::Dimmer(lamp) => {
-            let x = dimmer::table::entry_of(lamp, r, data, command);
-            let next = x.lamp;
-            let entry = x.entry;
-            LoadEntry {
-                load: Load::Dimmer(next),
-                entry: entry,
-            }
-        }
-        Load::Outlet(sockets) => {
-            let x = outlet::table::entry_of(sockets, r, data, command);
-            let next = x.sockets;
-            let entry = x.entry;
-            LoadEntry {
-                load: Load::Outlet(next),
-                entry: entry,
-            }
-        }
+        Load::Dimmer(lamp) => of_kind(entry_of::<Dimmer>(lamp, r, data, command), Load::Dimmer),
+        Load::Outlet(sockets) => of_kind(
+            entry_of::<Outlet>(sockets, r, data, command),
+            Load::Outlet,
+        ),
+    }
+}
+
+// A kind's own answer, as one of any kind.
+fn of_kind<L, F: FnOnce(L) -> Load>(own: LoadEntry<L>, kind: F) -> LoadEntry<Load>
+    requires { F.pre kind own.load }
+    ensures { (F.post kind own.load result.load) × (result.entry ≡ own.entry) }
+{
+    LoadEntry {
+        load: kind(own.load),
+        entry: own.entry,
     }
 }
 

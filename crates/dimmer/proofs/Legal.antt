@@ -17,20 +17,21 @@ use Rattle.wire.specs.Asked.{Short, Asks, command_in}
 use Rattle.wire.proofs.CommandBytes.{Told, to-anybody, to-module, to-load, ToldLong, to-set-flags, to-properties, to-database, long-to-load}
 use Rattle.wire.proofs.CommandBytes.{by_command, short_command, long_command}
 use Rattle.load.specs.declared.entry.Entry.{Entry}
+use Rattle.load.specs.declared.entry.LoadEntry.{LoadEntry}
+use Rattle.load.specs.Table.{properties_entry, standard_entry, extended_entry}
 use Rattle.load.specs.Judged.{Judged, listed, other, left, Leaves}
 use Rattle.load.specs.declared.state.Lamp.{Lamp}
-use Rattle.dimmer.specs.declared.lamp.LampEntry.{LampEntry}
 use Rattle.dimmer.specs.Load.{statuses, status_entry, percent_entry, load_rows, load_entry}
-use Rattle.dimmer.specs.Properties.{ramp_entry, property_rows, property_entry, properties_entry}
-use Rattle.dimmer.specs.Table.{standard_entry, extended_entry, entry_of}
+use Rattle.dimmer.specs.Properties.{ramp_entry, property_rows, property_entry}
+use Rattle.dimmer.specs.Table.{own, entry_of}
 use Rattle.dimmer.specs.Legal.{Dimmer, on, on-fast, instant, off, off-fast, brighten, dim, status, status-percent}
 use Rattle.dimmer.specs.Legal.{on-at-ramp, off-at-ramp, percent, get-properties, set-ramp, set-on-level}
 
 module _ (lamp : Lamp) (s : List ℕ) where
-  abbrev pub answer : Command → LampEntry
+  abbrev pub answer : Command → LoadEntry Lamp
   answer command = entry_of lamp (request_of s) (data_of s) command
 
-  pub says : (x : Lamp) (e : Entry) → Dimmer lamp s x e → answer (command_in s) ≡ record { lamp = x; entry = e }
+  pub says : (x : Lamp) (e : Entry) → Dimmer lamp s x e → answer (command_in s) ≡ record { load = x; entry = e }
   unfolding standards extendeds choose status_entry percent_entry load_entry ramp_entry property_entry properties_entry
   says x e (on h) = rw (short_command s 0x11 h, h.1)
   says x e (on-fast h) = rw (short_command s 0x12 h, h.1)
@@ -52,8 +53,8 @@ module _ (lamp : Lamp) (s : List ℕ) where
   unfolding choose property_entry properties_entry
   leaves = record { opens = λ _. refl; modules = λ _. refl; set-flags = refl; x10 = λ y z. rw (y, z); led = λ y z. rw (y, z); database = refl }
 
-  abbrev Fits : LampEntry → Type 0
-  Fits x = Judged (Dimmer lamp s) x.lamp x.entry
+  abbrev Fits : LoadEntry Lamp → Type 0
+  Fits x = Judged (Dimmer lamp s) x.load x.entry
 
   module _ (x : is_extended s ≡ false) where
     status-judged : Short s 0x19 → Fits (status_entry lamp (command2_of s))
@@ -82,7 +83,7 @@ module _ (lamp : Lamp) (s : List ℕ) where
         or tt)
         (other refl)
 
-    short-judged : (command : Standard) → Told (command1_of s) command → Fits (standard_entry lamp (request_of s) command)
+    short-judged : (command : Standard) → Told (command1_of s) command → Fits (standard_entry own lamp (request_of s) command)
     short-judged _ (to-anybody command e) = left refl
     short-judged _ (to-module command e) = left refl
     short-judged _ to-load = load-judged
@@ -99,11 +100,11 @@ module _ (lamp : Lamp) (s : List ℕ) where
         ((λ e. listed (get-properties ((x, y), z, e))) or (λ e. ramp-judged ((x, y), z, e)) or (λ e. listed (set-on-level ((x, y), z, e))) or tt)
         (left refl)
 
-    properties-judged : command1_of s ≡ 0x2e → Fits (properties_entry lamp (request_of s) (data_of s))
+    properties-judged : command1_of s ≡ 0x2e → Fits (properties_entry own lamp (request_of s) (data_of s))
     unfolding properties_entry
     properties-judged y = by Fits (eqb (command2_of s) 0x00) (λ e. property-judged y (eqb-true _ 0x00 e)) (λ _. left refl)
 
-    long-judged : (command : Extended) → ToldLong (command1_of s) command → Fits (extended_entry lamp (request_of s) (data_of s) command)
+    long-judged : (command : Extended) → ToldLong (command1_of s) command → Fits (extended_entry own lamp (request_of s) (data_of s) command)
     long-judged _ (to-set-flags e) = left refl
     long-judged _ (to-properties e) = properties-judged e
     long-judged _ (to-database e) = left refl

@@ -11,13 +11,14 @@ use Rattle.wire.specs.declared.command.Extended.{Extended}
 use Rattle.wire.specs.declared.command.Command.{Command}
 use Rattle.wire.specs.Bytes.{data_in}
 use Rattle.load.specs.declared.entry.Entry.{Entry}
+use Rattle.load.specs.declared.entry.LoadEntry.{LoadEntry}
+use Rattle.load.specs.Answer.{stays}
+use Rattle.load.specs.Table.{properties_entry}
 use Rattle.load.specs.Alike.{same, shown}
 use Rattle.load.specs.declared.state.Lamp.{Lamp}
-use Rattle.dimmer.specs.declared.lamp.LampEntry.{LampEntry}
-use Rattle.dimmer.specs.Lamp.{stays}
 use Rattle.dimmer.specs.Load.{statuses, status_entry, percent_entry, load_rows, load_entry}
-use Rattle.dimmer.specs.Properties.{ramp_entry, property_entry, properties_entry}
-use Rattle.dimmer.specs.Table.{entry_of}
+use Rattle.dimmer.specs.Properties.{ramp_entry, property_entry}
+use Rattle.dimmer.specs.Table.{own, entry_of}
 use Rattle.dimmer.specs.Rates.{with_rates, LampsAlike}
 
 module _ (ramp on_level : ℕ) (lamp : Lamp) where
@@ -25,8 +26,8 @@ module _ (ramp on_level : ℕ) (lamp : Lamp) where
   other = with_rates ramp on_level lamp
 
   -- an answer with those rates in its lamp
-  abbrev rated : LampEntry → LampEntry
-  rated x = record { lamp = with_rates ramp on_level x.lamp; entry = x.entry }
+  abbrev rated : LoadEntry Lamp → LoadEntry Lamp
+  rated x = record { load = with_rates ramp on_level x.load; entry = x.entry }
 
   status_rated : (command2 : ℕ) → status_entry other command2 ≡ rated (status_entry lamp command2)
   unfolding status_entry
@@ -34,23 +35,23 @@ module _ (ramp on_level : ℕ) (lamp : Lamp) where
 
   percent_rated : (command2 : ℕ) → percent_entry other command2 ≡ rated (percent_entry lamp command2)
   unfolding percent_entry
-  percent_rated command2 = beside (λ (x y : LampEntry). x ≡ rated y) (leb command2 0x64) refl refl
+  percent_rated command2 = beside (λ (x y : LoadEntry Lamp). x ≡ rated y) (leb command2 0x64) refl refl
 
   -- a command to the lamp gives the same to both, each with its own rates
   load_rated : (r : Request) → load_entry other r ≡ rated (load_entry lamp r)
   unfolding load_entry
   load_rated r = rw (status_rated r.command2, percent_rated r.command2) (altered-rows rated r.command1 (stays lamp Entry.Unlisted) (load_rows lamp r.command2))
 
-  lit : (x y : Lamp) → x.level ≡ y.level → LampsAlike (record { lamp = x; entry = Entry.Done }) (record { lamp = y; entry = Entry.Done })
+  lit : (x y : Lamp) → x.level ≡ y.level → LampsAlike (record { load = x; entry = Entry.Done }) (record { load = y; entry = Entry.Done })
   lit x y e = record { level = e; entry = same Entry.Done }
 
   both : (entry : Entry) → LampsAlike (stays lamp entry) (stays other entry)
   both entry = record { level = refl; entry = same entry }
 
-  rated_alike : (x y : LampEntry) → y ≡ rated x → LampsAlike x y
+  rated_alike : (x y : LoadEntry Lamp) → y ≡ rated x → LampsAlike x y
   rated_alike x y e = rw e (record { level = refl; entry = same x.entry })
 
-  properties_alike : (r : Request) (d : List ℕ) → LampsAlike (properties_entry lamp r d) (properties_entry other r d)
+  properties_alike : (r : Request) (d : List ℕ) → LampsAlike (properties_entry own lamp r d) (properties_entry own other r d)
   unfolding ramp_entry property_entry properties_entry
   properties_alike r d =
       beside LampsAlike (eqb r.command2 0x00)

@@ -1,20 +1,20 @@
 -- "Direct commands, extended": a dimmer's own properties.
-use Rattle.std.specs.Prelude.{ℕ, List, [], ◌∷◌, eqb, leb}
+use Rattle.std.specs.Prelude.{ℕ, List, [], ◌∷◌, leb}
 use Rattle.basis.specs.Choice.{choose}
 use Rattle.basis.specs.Table.{Row, among, ◌⇒◌}
-use Rattle.wire.specs.declared.request.Request.{Request}
 use Rattle.wire.specs.Bytes.{data_in}
 use Rattle.load.specs.declared.entry.Entry.{Entry}
+use Rattle.load.specs.declared.entry.LoadEntry.{LoadEntry}
+use Rattle.load.specs.Answer.{becomes, stays}
 use Rattle.load.specs.declared.state.Lamp.{Lamp}
-use Rattle.dimmer.specs.declared.lamp.LampEntry.{LampEntry}
-use Rattle.dimmer.specs.Lamp.{with_ramp, with_on_level, becomes, stays}
+use Rattle.dimmer.specs.Lamp.{with_ramp, with_on_level}
 
 -- ramp 00 to 1F
-unfoldable pub ramp_entry : Lamp → ℕ → LampEntry
+unfoldable pub ramp_entry : Lamp → ℕ → LoadEntry Lamp
 ramp_entry lamp ramp = choose (leb ramp 0x1f) (becomes (with_ramp ramp lamp)) (stays lamp Entry.Unlisted)
 
 -- 2E: Data 2 says what is asked for; 00 is Get Properties
-abbrev pub property_rows : Lamp → List ℕ → List (Row LampEntry)
+abbrev pub property_rows : Lamp → List ℕ → List (Row (LoadEntry Lamp))
 property_rows lamp d =
     0x00 ⇒ stays lamp (Entry.Shown (record { ramp = lamp.ramp; on_level = lamp.on_level })) ∷
     0x05 ⇒ ramp_entry lamp (data_in d 3) ∷
@@ -22,9 +22,5 @@ property_rows lamp d =
     []
 
 -- what else there is, every kind has
-unfoldable pub property_entry : Lamp → List ℕ → LampEntry
+unfoldable pub property_entry : Lamp → List ℕ → LoadEntry Lamp
 property_entry lamp d = among (data_in d 2) (stays lamp Entry.Shared) (property_rows lamp d)
-
--- it needs Command 2 = 00
-unfoldable pub properties_entry : Lamp → Request → List ℕ → LampEntry
-properties_entry lamp r d = choose (eqb r.command2 0x00) (property_entry lamp d) (stays lamp Entry.Shared)

@@ -2,7 +2,7 @@
 use Rattle.std.specs.Prelude.{ℕ, ◌≡◌}
 use Rattle.load.specs.Alike.{Alike}
 use Rattle.load.specs.declared.state.Lamp.{Lamp}
-use Rattle.dimmer.specs.declared.lamp.LampEntry.{LampEntry}
+use Rattle.load.specs.declared.entry.LoadEntry.{LoadEntry}
 use Rattle.dimmer.specs.Lamp.{with_ramp, with_on_level}
 
 -- a lamp with another ramp rate and on level
@@ -10,6 +10,6 @@ abbrev pub with_rates : ℕ → ℕ → Lamp → Lamp
 with_rates ramp on_level lamp = with_ramp ramp (with_on_level on_level lamp)
 
 -- answers that leave one level, and differ by what Get Properties shows alone
-pub record LampsAlike (x y : LampEntry) : Type 0 where
-  pub level : x.lamp.level ≡ y.lamp.level
+pub record LampsAlike (x y : LoadEntry Lamp) : Type 0 where
+  pub level : x.load.level ≡ y.load.level
   pub entry : Alike x.entry y.entry

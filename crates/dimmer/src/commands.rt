@@ -2,13 +2,12 @@
 ghost use Rattle.std.specs.Prelude.{◌≡◌};
 ghost use Rattle.dimmer.specs.Load.{at_level, status_entry, percent_entry, load_entry};
 
-use crate::lamp::{LampEntry, becomes, stays};
 use crate::levels::{high_then_f, level_of, lowered, percent_of, raised};
-use load::entry::Entry;
+use load::entry::{Entry, LoadEntry, becomes, stays};
 use load::state::Lamp;
 use wire::request::Request;
 
-pub(crate) fn load_entry(lamp: Lamp, r: Request) -> LampEntry
+pub(crate) fn load_entry(lamp: Lamp, r: Request) -> LoadEntry<Lamp>
     ensures { result ≡ load_entry lamp r }
 {
     let command1 = r.command1;
@@ -29,7 +28,7 @@ pub(crate) fn load_entry(lamp: Lamp, r: Request) -> LampEntry
 }
 
 // The lamp takes a level.
-fn at_level(lamp: Lamp, level: u8) -> LampEntry
+fn at_level(lamp: Lamp, level: u8) -> LoadEntry<Lamp>
     ensures { result ≡ at_level lamp level }
 {
     becomes(Lamp {
@@ -39,7 +38,7 @@ fn at_level(lamp: Lamp, level: u8) -> LampEntry
 }
 
 // 19: Command 2 says what is shown.
-fn status_entry(lamp: Lamp, command2: u8) -> LampEntry
+fn status_entry(lamp: Lamp, command2: u8) -> LoadEntry<Lamp>
     ensures { result ≡ status_entry lamp command2 }
 {
     match command2 {
@@ -50,7 +49,7 @@ fn status_entry(lamp: Lamp, command2: u8) -> LampEntry
 }
 
 // 39: Command 2 is per cent.
-fn percent_entry(lamp: Lamp, command2: u8) -> LampEntry
+fn percent_entry(lamp: Lamp, command2: u8) -> LoadEntry<Lamp>
     ensures { result ≡ percent_entry lamp command2 }
 {
     match command2 {

@@ -2,7 +2,6 @@
 #![tactic(auto)]
 
 pub mod groups; // what a group's record does
-pub mod lamp; // what the table answers
 mod levels; // levels and per cent
 mod commands; // commands to the lamp
 mod properties; // extended 2E

@@ -1,25 +1,12 @@
 // 2E: a dimmer's own properties ("Direct commands, extended").
 ghost use Rattle.std.specs.Prelude.{◌≡◌};
-ghost use Rattle.dimmer.specs.Properties.{ramp_entry, property_entry, properties_entry};
+ghost use Rattle.dimmer.specs.Properties.{ramp_entry, property_entry};
 
-use crate::lamp::{LampEntry, becomes, stays};
-use load::entry::{Entry, Properties};
+use load::entry::{Entry, LoadEntry, Properties, becomes, stays};
 use load::state::Lamp;
-use wire::request::Request;
-
-// Command 2 must be 00.
-pub(crate) fn properties_entry(lamp: Lamp, r: Request, data: [u8; 14]) -> LampEntry
-    ensures { result ≡ properties_entry lamp r «data» }
-{
-    let command2 = r.command2;
-    match command2 {
-        0x00 => property_entry(lamp, data),
-        _ => stays(lamp, Entry::Shared),
-    }
-}
 
 // Data 2 says what is asked for, and Data 3 is the new value.
-fn property_entry(lamp: Lamp, data: [u8; 14]) -> LampEntry
+pub(crate) fn property_entry(lamp: Lamp, data: [u8; 14]) -> LoadEntry<Lamp>
     ensures { result ≡ property_entry lamp «data» }
 {
     let what = data[1];
@@ -41,7 +28,7 @@ fn property_entry(lamp: Lamp, data: [u8; 14]) -> LampEntry
     }
 }
 
-fn ramp_entry(lamp: Lamp, ramp: u8) -> LampEntry
+fn ramp_entry(lamp: Lamp, ramp: u8) -> LoadEntry<Lamp>
     ensures { result ≡ ramp_entry lamp ramp }
 {
     match ramp {

@@ -1,42 +1,29 @@
-// A dimmer's own rows; the others are as every kind has them.
+// A dimmer's own rows.
 ghost use Rattle.std.specs.Prelude.{◌≡◌};
-ghost use Rattle.dimmer.specs.Table.{standard_entry, extended_entry, entry_of};
+ghost use Rattle.dimmer.specs.Table.{own};
 
-use crate::commands::load_entry;
-use crate::lamp::{LampEntry, stays};
-use crate::properties::properties_entry;
-use load::entry::Entry;
+use crate::{commands, properties};
+use load::entry::{Entry, LoadEntry, stays};
 use load::state::Lamp;
-use wire::command::{Command, Extended, Standard};
+use load::table::Kind;
 use wire::request::Request;
 
-// With the data bytes beside the command.
-pub fn entry_of(lamp: Lamp, r: Request, data: [u8; 14], command: Command) -> LampEntry
-    ensures { result ≡ entry_of lamp r «data» command }
-{
-    match command {
-        Command::Standard(s) => standard_entry(lamp, r, s),
-        Command::Extended(e) => extended_entry(lamp, r, data, e),
-    }
-}
+pub struct Dimmer;
 
-fn standard_entry(lamp: Lamp, r: Request, command: Standard) -> LampEntry
-    ensures { result ≡ standard_entry lamp r command }
-{
-    match command {
-        Standard::Open(_) => stays(lamp, Entry::Shared),
-        Standard::Module(_) => stays(lamp, Entry::Shared),
-        Standard::Load => load_entry(lamp, r),
-    }
-}
+impl Kind for Dimmer {
+    type Load = Lamp;
 
-fn extended_entry(lamp: Lamp, r: Request, data: [u8; 14], command: Extended) -> LampEntry
-    ensures { result ≡ extended_entry lamp r «data» command }
-{
-    match command {
-        Extended::SetFlags => stays(lamp, Entry::Shared),
-        Extended::Properties => properties_entry(lamp, r, data),
-        Extended::Database => stays(lamp, Entry::Shared),
-        Extended::Load => stays(lamp, Entry::Unlisted),
+    ghost own = { own };
+
+    fn load_entry(lamp: Lamp, r: Request) -> LoadEntry<Lamp> {
+        commands::load_entry(lamp, r)
+    }
+
+    fn property_entry(lamp: Lamp, data: [u8; 14]) -> LoadEntry<Lamp> {
+        properties::property_entry(lamp, data)
+    }
+
+    fn second_entry(lamp: Lamp, _: Request, _: [u8; 14]) -> LoadEntry<Lamp> {
+        stays(lamp, Entry::Unlisted)
     }
 }

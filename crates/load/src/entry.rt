@@ -1,4 +1,6 @@
 // All that a kind's own table can say of a direct command. The load afterwards stands beside it; what else a module has, no kind sees.
+ghost use Rattle.std.specs.Prelude.{◌≡◌};
+ghost use Rattle.load.specs.Answer.{becomes, stays};
 
 #[derive(Clone, Copy)]
 pub enum Entry {
@@ -19,4 +21,28 @@ pub enum Entry {
 pub struct Properties {
     pub ramp: u8,
     pub on_level: u8,
+}
+
+// What a table has for a command, and the load afterwards: a kind's own load, or one of any kind.
+#[derive(Clone, Copy)]
+pub struct LoadEntry<L> {
+    pub load: L,
+    pub entry: Entry,
+}
+
+// Carried out: the load is this one then.
+pub fn becomes<L>(load: L) -> LoadEntry<L>
+    ensures { result ≡ becomes load }
+{
+    LoadEntry {
+        load,
+        entry: Entry::Done,
+    }
+}
+
+// The load is what it was.
+pub fn stays<L>(load: L, entry: Entry) -> LoadEntry<L>
+    ensures { result ≡ stays load entry }
+{
+    LoadEntry { load, entry }
 }

@@ -3,3 +3,4 @@
 
 pub mod entry; // what a table has for a command
 pub mod state; // the loads, and what they start with
+pub mod table; // a kind's own rows among those of every kind

@@ -32,21 +32,27 @@ pub const FRESH_TOP: bool = false;
 
 pub const FRESH_BOTTOM: bool = false;
 
-pub fn fresh_lamp() -> Lamp
-    ensures { result ≡ fresh_lamp }
-{
-    Lamp {
-        level: FRESH_LEVEL,
-        ramp: FRESH_RAMP,
-        on_level: FRESH_ON_LEVEL,
+// A fresh one.
+impl Default for Lamp {
+    ghost is_default = { λ lamp. lamp ≡ fresh_lamp };
+
+    fn default() -> Lamp {
+        Lamp {
+            level: FRESH_LEVEL,
+            ramp: FRESH_RAMP,
+            on_level: FRESH_ON_LEVEL,
+        }
     }
 }
 
-pub fn fresh_sockets() -> Sockets
-    ensures { result ≡ fresh_sockets }
-{
-    Sockets {
-        top: FRESH_TOP,
-        bottom: FRESH_BOTTOM,
+// Fresh ones.
+impl Default for Sockets {
+    ghost is_default = { λ sockets. sockets ≡ fresh_sockets };
+
+    fn default() -> Sockets {
+        Sockets {
+            top: FRESH_TOP,
+            bottom: FRESH_BOTTOM,
+        }
     }
 }

@@ -3,8 +3,6 @@ ghost use Rattle.std.specs.Prelude.{◌≡◌};
 ghost use Rattle.module.specs.Deed.{acked, telling, showing, limited};
 
 use crate::change::Change;
-use load::entry::Entry;
-use load::state::Load;
 use reply::due::DataBytes;
 
 // What the ACK says.
@@ -30,13 +28,6 @@ pub enum Deed {
     Written(usize, usize),
     // Result 7.
     Unlisted,
-}
-
-// What the table of the module's kind has for a command, and the load afterwards.
-#[derive(Clone, Copy)]
-pub struct LoadEntry {
-    pub load: Load,
-    pub entry: Entry,
 }
 
 // Carried out, and ACKed with both commands.

@@ -2,7 +2,7 @@
 ghost use Rattle.std.specs.Prelude.{◌≡◌};
 ghost use Rattle.module.specs.Module.{fresh_with, fresh_dimmer, fresh_outlet};
 
-use load::state::{Load, fresh_lamp, fresh_sockets};
+use load::state::{Lamp, Load, Sockets};
 use wire::address::Address;
 
 #[derive(Clone, Copy)]
@@ -41,14 +41,14 @@ impl Module {
     pub fn fresh_dimmer(identity: Identity) -> Module
         ensures { result ≡ fresh_dimmer identity }
     {
-        fresh(identity, Load::Dimmer(fresh_lamp()))
+        fresh(identity, Load::Dimmer(Lamp::default()))
     }
 
     // A fresh outlet of an identity.
     pub fn fresh_outlet(identity: Identity) -> Module
         ensures { result ≡ fresh_outlet identity }
     {
-        fresh(identity, Load::Outlet(fresh_sockets()))
+        fresh(identity, Load::Outlet(Sockets::default()))
     }
 }
 

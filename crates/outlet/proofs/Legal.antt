@@ -17,12 +17,13 @@ use Rattle.wire.specs.Asked.{Short, command_in}
 use Rattle.wire.proofs.CommandBytes.{Told, to-anybody, to-module, to-load, ToldLong, to-set-flags, to-properties, to-database, long-to-load}
 use Rattle.wire.proofs.CommandBytes.{by_command, short_command, long_command}
 use Rattle.load.specs.declared.entry.Entry.{Entry}
+use Rattle.load.specs.declared.entry.LoadEntry.{LoadEntry}
+use Rattle.load.specs.Table.{properties_entry, standard_entry, extended_entry}
 use Rattle.load.specs.Judged.{Judged, listed, other, left, Leaves}
 use Rattle.load.specs.declared.state.Sockets.{Sockets}
-use Rattle.outlet.specs.declared.sockets.SocketsEntry.{SocketsEntry}
 use Rattle.outlet.specs.Load.{full_of, bit_of, statuses, status_entry, load_rows, load_entry, bottom_entry, second_rows, second_entry}
-use Rattle.outlet.specs.Properties.{property_entry, properties_entry}
-use Rattle.outlet.specs.Table.{standard_entry, extended_entry, entry_of}
+use Rattle.outlet.specs.Properties.{property_entry}
+use Rattle.outlet.specs.Table.{own, entry_of}
 use Rattle.outlet.specs.Legal.{full, bit, Outlet, top_on, top-off, bottom-on, bottom-off, status, status-both, get-properties}
 
 -- what is shown is what the rows say
@@ -37,10 +38,10 @@ shows_bit true = refl
 shows_bit false = refl
 
 module _ (sockets : Sockets) (s : List ℕ) where
-  abbrev pub answer : Command → SocketsEntry
+  abbrev pub answer : Command → LoadEntry Sockets
   answer command = entry_of sockets (request_of s) (data_of s) command
 
-  pub says : (x : Sockets) (e : Entry) → Outlet sockets s x e → answer (command_in s) ≡ record { sockets = x; entry = e }
+  pub says : (x : Sockets) (e : Entry) → Outlet sockets s x e → answer (command_in s) ≡ record { load = x; entry = e }
   unfolding standards extendeds choose status_entry load_entry bottom_entry second_entry property_entry properties_entry
   says x e (top_on h) = rw (short_command s 0x11 h, h.1)
   says x e (top-off h) = rw (short_command s 0x13 h, h.1)
@@ -54,8 +55,8 @@ module _ (sockets : Sockets) (s : List ℕ) where
   unfolding choose property_entry properties_entry
   leaves = record { opens = λ _. refl; modules = λ _. refl; set-flags = refl; x10 = λ y z. rw (y, z); led = λ y z. rw (y, z); database = refl }
 
-  abbrev Fits : SocketsEntry → Type 0
-  Fits x = Judged (Outlet sockets s) x.sockets x.entry
+  abbrev Fits : LoadEntry Sockets → Type 0
+  Fits x = Judged (Outlet sockets s) x.load x.entry
 
   module _ (x : is_extended s ≡ false) where
     status-judged : Short s 0x19 → Fits (status_entry sockets (command2_of s))
@@ -74,7 +75,7 @@ module _ (sockets : Sockets) (s : List ℕ) where
         ((λ e. listed (top_on (x, e))) or (λ e. listed (top-off (x, e))) or (λ e. status-judged (x, e)) or tt)
         (other refl)
 
-    short-judged : (command : Standard) → Told (command1_of s) command → Fits (standard_entry sockets (request_of s) command)
+    short-judged : (command : Standard) → Told (command1_of s) command → Fits (standard_entry own sockets (request_of s) command)
     short-judged _ (to-anybody command e) = left refl
     short-judged _ (to-module command e) = left refl
     short-judged _ to-load = load-judged
@@ -89,14 +90,14 @@ module _ (sockets : Sockets) (s : List ℕ) where
         or tt)
         (other refl)
 
-    properties-judged : command1_of s ≡ 0x2e → Fits (properties_entry sockets (request_of s) (data_of s))
+    properties-judged : command1_of s ≡ 0x2e → Fits (properties_entry own sockets (request_of s) (data_of s))
     unfolding properties_entry property_entry
     properties-judged y =
         by Fits (eqb (command2_of s) 0x00)
         (λ z. by Fits (eqb (data_at s 2) 0x00) (λ e. listed (get-properties ((x, y), eqb-true _ 0x00 z, eqb-true _ 0x00 e))) (λ _. left refl))
         (λ _. left refl)
 
-    long-judged : (command : Extended) → ToldLong (command1_of s) command → Fits (extended_entry sockets (request_of s) (data_of s) command)
+    long-judged : (command : Extended) → ToldLong (command1_of s) command → Fits (extended_entry own sockets (request_of s) (data_of s) command)
     long-judged _ (to-set-flags e) = left refl
     long-judged _ (to-properties e) = properties-judged e
     long-judged _ (to-database e) = left refl

@@ -2,13 +2,12 @@
 ghost use Rattle.std.specs.Prelude.{◌≡◌, ◌≤◌};
 ghost use Rattle.outlet.specs.Load.{at_top, at_bottom, full_of, bit_of, both_of, status_entry, load_entry, bottom_entry, second_entry};
 
-use crate::sockets::{SocketsEntry, becomes, stays};
-use load::entry::Entry;
+use load::entry::{Entry, LoadEntry, becomes, stays};
 use load::state::Sockets;
 use wire::request::Request;
 
 // Command 2 is read by 19 alone.
-pub(crate) fn load_entry(sockets: Sockets, r: Request) -> SocketsEntry
+pub(crate) fn load_entry(sockets: Sockets, r: Request) -> LoadEntry<Sockets>
     ensures { result ≡ load_entry sockets r }
 {
     let command1 = r.command1;
@@ -20,7 +19,7 @@ pub(crate) fn load_entry(sockets: Sockets, r: Request) -> SocketsEntry
     }
 }
 
-pub(crate) fn second_entry(sockets: Sockets, r: Request, data: [u8; 14]) -> SocketsEntry
+pub(crate) fn second_entry(sockets: Sockets, r: Request, data: [u8; 14]) -> LoadEntry<Sockets>
     ensures { result ≡ second_entry sockets r «data» }
 {
     let command1 = r.command1;
@@ -32,7 +31,7 @@ pub(crate) fn second_entry(sockets: Sockets, r: Request, data: [u8; 14]) -> Sock
 }
 
 // Data 1 = 02 names the bottom socket, and nothing else is listed.
-fn bottom_entry(sockets: Sockets, data: [u8; 14], is_on: bool) -> SocketsEntry
+fn bottom_entry(sockets: Sockets, data: [u8; 14], is_on: bool) -> LoadEntry<Sockets>
     ensures { result ≡ bottom_entry sockets «data» is_on }
 {
     let which = data[0];
@@ -42,7 +41,7 @@ fn bottom_entry(sockets: Sockets, data: [u8; 14], is_on: bool) -> SocketsEntry
     }
 }
 
-fn at_top(sockets: Sockets, is_on: bool) -> SocketsEntry
+fn at_top(sockets: Sockets, is_on: bool) -> LoadEntry<Sockets>
     ensures { result ≡ at_top sockets is_on }
 {
     becomes(Sockets {
@@ -51,7 +50,7 @@ fn at_top(sockets: Sockets, is_on: bool) -> SocketsEntry
     })
 }
 
-fn at_bottom(sockets: Sockets, is_on: bool) -> SocketsEntry
+fn at_bottom(sockets: Sockets, is_on: bool) -> LoadEntry<Sockets>
     ensures { result ≡ at_bottom sockets is_on }
 {
     becomes(Sockets {
@@ -61,7 +60,7 @@ fn at_bottom(sockets: Sockets, is_on: bool) -> SocketsEntry
 }
 
 // 19: Command 2 says what is shown.
-fn status_entry(sockets: Sockets, command2: u8) -> SocketsEntry
+fn status_entry(sockets: Sockets, command2: u8) -> LoadEntry<Sockets>
     ensures { result ≡ status_entry sockets command2 }
 {
     match command2 {

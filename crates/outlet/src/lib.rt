@@ -4,5 +4,4 @@
 pub mod groups; // what a group's record does
 mod commands; // commands to the sockets
 mod properties; // extended 2E
-pub mod sockets; // what the table answers
 pub mod table; // the rows that are its own

@@ -1,25 +1,12 @@
 // 2E: an outlet shows the ramp and the on level of a fresh module, and has none to set (request 1).
 ghost use Rattle.std.specs.Prelude.{◌≡◌};
-ghost use Rattle.outlet.specs.Properties.{property_entry, properties_entry};
+ghost use Rattle.outlet.specs.Properties.{property_entry};
 
-use crate::sockets::{SocketsEntry, stays};
-use load::entry::{Entry, Properties};
+use load::entry::{Entry, LoadEntry, Properties, stays};
 use load::state::{FRESH_ON_LEVEL, FRESH_RAMP, Sockets};
-use wire::request::Request;
-
-// Command 2 must be 00.
-pub(crate) fn properties_entry(sockets: Sockets, r: Request, data: [u8; 14]) -> SocketsEntry
-    ensures { result ≡ properties_entry sockets r «data» }
-{
-    let command2 = r.command2;
-    match command2 {
-        0x00 => property_entry(sockets, data),
-        _ => stays(sockets, Entry::Shared),
-    }
-}
 
 // Data 2 says what is asked for.
-fn property_entry(sockets: Sockets, data: [u8; 14]) -> SocketsEntry
+pub(crate) fn property_entry(sockets: Sockets, data: [u8; 14]) -> LoadEntry<Sockets>
     ensures { result ≡ property_entry sockets «data» }
 {
     let what = data[1];

@@ -1,42 +1,29 @@
-// An outlet's own rows; the others are as every kind has them (request 1).
+// An outlet's own rows (request 1).
 ghost use Rattle.std.specs.Prelude.{◌≡◌};
-ghost use Rattle.outlet.specs.Table.{standard_entry, extended_entry, entry_of};
+ghost use Rattle.outlet.specs.Table.{own};
 
-use crate::commands::{load_entry, second_entry};
-use crate::properties::properties_entry;
-use crate::sockets::{SocketsEntry, stays};
-use load::entry::Entry;
+use crate::{commands, properties};
+use load::entry::LoadEntry;
 use load::state::Sockets;
-use wire::command::{Command, Extended, Standard};
+use load::table::Kind;
 use wire::request::Request;
 
-// With the data bytes beside the command.
-pub fn entry_of(sockets: Sockets, r: Request, data: [u8; 14], command: Command) -> SocketsEntry
-    ensures { result ≡ entry_of sockets r «data» command }
-{
-    match command {
-        Command::Standard(s) => standard_entry(sockets, r, s),
-        Command::Extended(e) => extended_entry(sockets, r, data, e),
-    }
-}
+pub struct Outlet;
 
-fn standard_entry(sockets: Sockets, r: Request, command: Standard) -> SocketsEntry
-    ensures { result ≡ standard_entry sockets r command }
-{
-    match command {
-        Standard::Open(_) => stays(sockets, Entry::Shared),
-        Standard::Module(_) => stays(sockets, Entry::Shared),
-        Standard::Load => load_entry(sockets, r),
-    }
-}
+impl Kind for Outlet {
+    type Load = Sockets;
 
-fn extended_entry(sockets: Sockets, r: Request, data: [u8; 14], command: Extended) -> SocketsEntry
-    ensures { result ≡ extended_entry sockets r «data» command }
-{
-    match command {
-        Extended::SetFlags => stays(sockets, Entry::Shared),
-        Extended::Properties => properties_entry(sockets, r, data),
-        Extended::Database => stays(sockets, Entry::Shared),
-        Extended::Load => second_entry(sockets, r, data),
+    ghost own = { own };
+
+    fn load_entry(sockets: Sockets, r: Request) -> LoadEntry<Sockets> {
+        commands::load_entry(sockets, r)
+    }
+
+    fn property_entry(sockets: Sockets, data: [u8; 14]) -> LoadEntry<Sockets> {
+        properties::property_entry(sockets, data)
+    }
+
+    fn second_entry(sockets: Sockets, r: Request, data: [u8; 14]) -> LoadEntry<Sockets> {
+        commands::second_entry(sockets, r, data)
     }
 }

@@ -16,7 +16,8 @@ use Rattle.module.specs.Deed.{limited}
 use Rattle.shared.specs.Standard.{flags_told}
 use Rattle.shared.specs.Extended.{property_deed, properties_deed, record_deed, database_deed}
 use Rattle.dimmer.specs.Load.{status_entry, percent_entry, load_entry}
-use Rattle.dimmer.specs.Properties.{ramp_entry, property_entry, properties_entry}
+use Rattle.load.specs.Table.{properties_entry}
+use Rattle.dimmer.specs.Properties.{ramp_entry, property_entry}
 use Rattle.outlet.specs.Load.{full_of, bit_of, bottom_entry, second_entry}
 use Rattle.outlet.specs.Load as outlet-load
 use Rattle.outlet.specs.Properties as outlet-properties
@@ -56,7 +57,7 @@ one_after_the_other = refl
 pub outlets_right : AllRight outlets
 unfolding choose first_from flagged standards extendeds group_command_of kind_of read_of meant place_of start_of stop_of written_if_there records_from up_to_mark
     status_entry load_entry outlet-load.status_entry outlet-load.load_entry flags_told limited bottom_entry second_entry full_of bit_of outlet-properties.property_entry
-    outlet-properties.properties_entry property_deed properties_deed record_deed database_deed socket_group direct_plan ruling_by fresh us linked
+    properties_entry property_deed properties_deed record_deed database_deed socket_group direct_plan ruling_by fresh us linked
     stranger zeros first_record other_record memory direct long cleanup broadcast reply room head database outlet switched record_of
     to_top_off to_bottom to_neither group_1 get got id mute answered takes refuses outlets
 outlets_right = refl

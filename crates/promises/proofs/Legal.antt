@@ -17,20 +17,22 @@ use Rattle.links.specs.Record.{records}
 use Rattle.results.specs.declared.Outcome.{Outcome}
 use Rattle.results.specs.Number.{number_of}
 use Rattle.load.specs.declared.entry.Entry.{Entry}
+use Rattle.load.specs.declared.entry.LoadEntry.{LoadEntry}
 use Rattle.load.specs.declared.state.Sockets.{Sockets}
 use Rattle.load.specs.declared.state.Load.{Load}
+use Rattle.load.specs.Answer.{of_kind}
+use Rattle.load.specs.Table.{properties_entry}
 use Rattle.load.specs.Judged.{Judged, listed, other, left, Leaves}
 use Rattle.load.proofs.Carried.{carried}
 use Rattle.module.specs.declared.state.Module.{Module}
 use Rattle.module.specs.declared.deed.Deed.{Deed}
-use Rattle.module.specs.declared.deed.LoadEntry.{LoadEntry}
 use Rattle.module.specs.Plan.{deed_plan}
 use Rattle.shared.specs.Extended.{property_deed, properties_deed}
 use Rattle.dimmer.proofs.Legal as dimmers
 use Rattle.outlet.specs.Load.{status_entry, load_entry, bottom_entry, second_entry}
-use Rattle.outlet.specs.Properties.{property_entry, properties_entry}
+use Rattle.outlet.specs.Properties.{property_entry}
 use Rattle.outlet.proofs.Legal as outlets
-use Rattle.decide.specs.Dispatch.{lamp_entry, sockets_entry, entry_by, deed_by, own_deed}
+use Rattle.decide.specs.Dispatch.{entry_by, deed_by, own_deed}
 use Rattle.decide.specs.Ruling.{ruling_of}
 use Rattle.device.specs.Step.{step_of}
 use Rattle.promises.specs.NotHere.{NotHere, on-fast, off-fast, brighten, dim, instant, percent, on-at-ramp, off-at-ramp}
@@ -44,12 +46,12 @@ use Rattle.promises.proofs.Leaves.{leaves}
 
 -- by the kind: what its table says, and what it leaves
 module _ (s : List ℕ) where
-  abbrev answer : Load → Command → LoadEntry
+  abbrev answer : Load → Command → LoadEntry Load
   answer load command = entry_by load (request_of s) (data_of s) command
 
   own_says : (load next : Load) (entry : Entry) → Own s load next entry → answer load (command_in s) ≡ record { load = next; entry = entry }
-  own_says _ _ _ (dimmer lamp next entry row) = ap lamp_entry (dimmers.says lamp s next entry row)
-  own_says _ _ _ (outlet sockets next entry row) = ap sockets_entry (outlets.says sockets s next entry row)
+  own_says _ _ _ (dimmer lamp next entry row) = ap (of_kind Load.Dimmer) (dimmers.says lamp s next entry row)
+  own_says _ _ _ (outlet sockets next entry row) = ap (of_kind Load.Outlet) (outlets.says sockets s next entry row)
 
   own_judged : (load : Load) → Judged (Own s load) (answer load (command_in s)).load (answer load (command_in s)).entry
   own_judged (Load.Dimmer lamp) = carried _ _ Load.Dimmer (dimmer lamp) _ _ (dimmers.judged lamp s)

@@ -35,13 +35,13 @@ use Rattle.reply.specs.Reply.{reply_of}
 use Rattle.results.specs.declared.Outcome.{Outcome}
 use Rattle.results.specs.Number.{number_of}
 use Rattle.load.specs.declared.entry.Entry.{Entry}
+use Rattle.load.specs.declared.entry.LoadEntry.{LoadEntry}
 use Rattle.load.specs.declared.state.Sockets.{Sockets}
 use Rattle.load.specs.declared.state.Load.{Load}
 use Rattle.load.specs.Alike.{Alike, same, shown}
 use Rattle.module.specs.declared.state.Module.{Module}
 use Rattle.module.specs.declared.change.Change.{Change}
 use Rattle.module.specs.declared.deed.Deed.{Deed}
-use Rattle.module.specs.declared.deed.LoadEntry.{LoadEntry}
 use Rattle.module.specs.declared.plan.Plan.{Plan}
 use Rattle.module.specs.Change.{with_led, with_x10, with_load, apply}
 use Rattle.module.specs.Deed.{acked, telling, limited}
@@ -170,7 +170,7 @@ module _ (m : Module) (flags led ramp level : ℕ) (l d : List ℕ) where
       by-entry x y h _ _ (same Entry.Unlisted) = unlisted-both
       by-entry x y h _ _ (shown p q) = record { number = refl; next = unchanged; links = refl; due = refl }
 
-      abbrev Answers : LoadEntry → LoadEntry → Type 0
+      abbrev Answers : LoadEntry Load → LoadEntry Load → Type 0
       Answers x y = Deeds x.load y.load x.entry y.entry
 
       answers-both : (load : Load) → Answers (entry_by load r d command) (entry_by (with_rates ramp level load) r d command)
@@ -178,7 +178,7 @@ module _ (m : Module) (flags led ramp level : ℕ) (l d : List ℕ) where
           let x = entry_of lamp r d command in
           let y = entry_of (lamps.with_rates ramp level lamp) r d command in
           let z = rates_alike ramp level lamp r d command in
-          by-entry (Load.Dimmer x.lamp) (Load.Dimmer y.lamp) (record { rate = y.lamp.ramp; on = y.lamp.on_level; rest = rw z.level }) _ _ z.entry
+          by-entry (Load.Dimmer x.load) (Load.Dimmer y.load) (record { rate = y.load.ramp; on = y.load.on_level; rest = rw z.level }) _ _ z.entry
       answers-both (Load.Outlet sockets) =
           let x = entry_by (Load.Outlet sockets) r d command in
           by-entry x.load x.load (record { rate = 0; on = 0; rest = refl }) _ _ (same x.entry)

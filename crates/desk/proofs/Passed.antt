@@ -10,12 +10,13 @@ use Rattle.modem.specs.Stream.{Cut, cut, call_in, calls_in}
 use Rattle.modem.proofs.Cut.{waiting, whole_first, short, in_pieces}
 use Rattle.desk.specs.declared.answer.Desk.{Desk}
 use Rattle.desk.specs.Desk.{sat_at, Answered}
-use Rattle.desk.specs.Tally.{place_of, counted_at, counted, counted_all}
+use Rattle.text.specs.declared.tally.Tally.{Tally}
+use Rattle.desk.specs.Tally.{counted_as, counted, counted_all}
 use Rattle.desk.specs.Passed.{Passed, Unfinished, ArrivedPromise}
 use Rattle.desk.proofs.Ahead.{Next, Rest}
 
 -- counted in two parts
-count_parts : (tally : List ℕ) (first second : List Heed) → counted_all tally (first ++ second) ≡ counted_all (counted_all tally first) second
+count_parts : (tally : Tally) (first second : List Heed) → counted_all tally (first ++ second) ≡ counted_all (counted_all tally first) second
 unfolding counted_all
 count_parts tally [] second = refl
 count_parts tally (t ∷ first) second = count_parts (counted tally t) first second
@@ -35,13 +36,13 @@ module _ (room room' : List ℕ) (e : length room ≡ length room') where
       end_alike (sat_by st (heed_in st (call_in room f))) frames
       ∙ ap (λ (z : Sat). sat_after z (calls_in room' frames)) (left-alike st f)
 
-  count_alike : (st : Sat) (tally : List ℕ) (frames : List (List ℕ))
+  count_alike : (st : Sat) (tally : Tally) (frames : List (List ℕ))
       → counted_all tally (heed_all st (calls_in room frames)) ≡ counted_all tally (heed_all st (calls_in room' frames))
   unfolding heed_all counted_all
   count_alike st tally [] = refl
   count_alike st tally (f ∷ frames) =
       count_alike (sat_by st (heed_in st (call_in room f))) (counted tally (heed_in st (call_in room f))) frames
-      ∙ (λ i. counted_all (counted_at (counted_at tally (alike st f i).number) (12 + place_of (alike st f i).whom)) (heed_all (left-alike st f i) (calls_in room' frames)))
+      ∙ (λ i. counted_all (counted_as tally (alike st f i).number (alike st f i).whom) (heed_all (left-alike st f i) (calls_in room' frames)))
 
 -- nothing is done yet, with the desk open or closed
 pub still : (desk after : Desk) (l room s : List ℕ) → sat_at after l ≡ sat_at desk l → after.tally ≡ desk.tally → Passed desk l room s after l s

@@ -8,15 +8,20 @@ use Rattle.modem.specs.Frames.{framed}
 use Rattle.modem.specs.Serve.{heeded_of}
 use Rattle.modem.specs.Stream.{call_in}
 use Rattle.desk.specs.declared.answer.Desk.{Desk}
+use Rattle.text.specs.declared.tally.Tally.{Tally}
 use Rattle.desk.specs.Tally.{counted}
 
 -- who sits there, beside link memory
 abbrev pub sat_at : Desk → List ℕ → Sat
 sat_at desk l = record { seating = desk.seating; links = l }
 
+-- no frame is counted
+abbrev pub blank_tally : Tally
+blank_tally = record { results = replicate 12 0; seats = replicate 16 0; every = 0; nobody = 0 }
+
 -- nothing has been served, and a frame may come
 abbrev pub fresh_desk : Seating → Desk
-fresh_desk seating = record { seating = seating; tally = replicate 30 0; is_open = true }
+fresh_desk seating = record { seating = seating; tally = blank_tally; is_open = true }
 
 abbrev pub closed_of : Desk → Desk
 closed_of desk = record { seating = desk.seating; tally = desk.tally; is_open = false }

@@ -2,22 +2,31 @@
 use Rattle.std.specs.Prelude.{ℕ, ◌+◌, ◌%◌, ◌^◌, List, [], ◌∷◌, slice_index, slice_set}
 use Rattle.row.specs.declared.progress.Whom.{Whom}
 use Rattle.seating.specs.Heed.{Heed}
+use Rattle.text.specs.declared.tally.Tally.{Tally}
 
--- the places of a class, one for every seat, and one for nobody
-abbrev pub place_of : Whom → ℕ
-place_of (Whom.Seat i) = i
-place_of Whom.All = 16
-place_of Whom.Nobody = 17
+-- one more; a count that is full begins anew
+abbrev pub one_more : ℕ → ℕ
+one_more n = (n + 1) % 2 ^ 64
 
--- one more at this place; a count that is full begins anew
+-- at this place
 abbrev pub counted_at : List ℕ → ℕ → List ℕ
-counted_at tally k = slice_set tally k ((slice_index tally k + 1) % 2 ^ 64)
+counted_at counts k = slice_set counts k (one_more (slice_index counts k))
 
--- what came of a frame: its result, and behind the twelve results the seat that it was for
-abbrev pub counted : List ℕ → Heed → List ℕ
-counted tally t = counted_at (counted_at tally t.number) (12 + place_of t.whom)
+-- one more for this seat, for every seat, or for nobody
+abbrev pub counted_for : Tally → Whom → Tally
+counted_for tally (Whom.Seat i) = record tally { seats = counted_at tally.seats i }
+counted_for tally Whom.All = record tally { every = one_more tally.every }
+counted_for tally Whom.Nobody = record tally { nobody = one_more tally.nobody }
+
+-- one more of this result, and whom it was for
+abbrev pub counted_as : Tally → ℕ → Whom → Tally
+counted_as tally number whom = counted_for (record tally { results = counted_at tally.results number }) whom
+
+-- what came of a frame
+abbrev pub counted : Tally → Heed → Tally
+counted tally t = counted_as tally t.number t.whom
 
 -- and of one frame after another
-unfoldable pub counted_all : List ℕ → List Heed → List ℕ
+unfoldable pub counted_all : Tally → List Heed → Tally
 counted_all tally [] = tally
 counted_all tally (t ∷ ts) = counted_all (counted tally t) ts

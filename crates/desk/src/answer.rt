@@ -2,17 +2,19 @@
 ghost use Rattle.std.specs.Prelude.{◌≡◌, ◌+◌};
 ghost use Rattle.io.specs.Counts.{IsPrefixLen};
 ghost use Rattle.modem.specs.Frames.{framed};
-ghost use Rattle.desk.specs.Tally.{place_of, counted_at};
+ghost use Rattle.desk.specs.Tally.{counted_at, counted_for, counted_as};
 ghost use Rattle.desk.specs.Desk.{fresh_desk, closed_of, AnswerPromise, Handed};
 
 use crate::Show;
 use crate::said::say_failed;
-use lines::counts::put_counts;
-use lines::told::put_told;
+use letters::Line;
+use lines::counts::Counts;
+use lines::told::Told;
 use modem::serve::{CRAMPED, serve};
 use row::progress::Whom;
 use seating::heed::{Heeded, Seating};
-use text::line::Tally;
+use std::fmt::{Display, Write};
+use text::tally::Tally;
 
 // Who sits there, how many frames had each result and were for each seat, and whether more frames are served.
 #[derive(Clone, Copy)]
@@ -28,7 +30,12 @@ pub(crate) fn fresh(seating: Seating) -> Desk
 {
     Desk {
         seating: seating,
-        tally: [0; 30],
+        tally: Tally {
+            results: [0; 12],
+            seats: [0; 16],
+            every: 0,
+            nobody: 0,
+        },
         is_open: true,
     }
 }
@@ -68,51 +75,38 @@ pub(crate) fn answer(
 fn answered(desk: Desk, h: Heeded, is_told: bool) -> Desk
     ensures { result ≡ record {
       seating = h.next;
-      tally = counted_at (counted_at desk.tally h.number) (12 + place_of h.whom);
+      tally = counted_as desk.tally h.number h.whom;
       is_open = is_told;
     } }
 {
     let seating = h.next;
-    let before = desk.tally;
-    let by_result = counted(before, h.number as usize);
-    let whom = h.whom;
-    let tally = counted_for(by_result, place_of(whom));
     Desk {
-        seating: seating,
-        tally: tally,
+        seating,
+        tally: counted_as(desk.tally, h.number, h.whom),
         is_open: is_told,
     }
 }
 
-fn counted(tally: Tally, i: usize) -> Tally
-    ensures { result ≡ counted_at tally i }
+fn counted_as(before: Tally, number: u8, whom: Whom) -> Tally
+    ensures { result ≡ counted_as before number whom }
 {
-    let mut counted = tally;
-    if i < 30 {
-        counted[i] = std::num::wrapping_add_u64(counted[i], 1);
-    }
-    counted
-}
-
-// A class has sixteen places: 16 is for every seat, 17 for nobody.
-fn place_of(whom: Whom) -> usize
-    ensures { result ≡ place_of whom }
-{
+    let mut tally = before;
+    count_at(&mut tally.results, usize::from(number));
     match whom {
-        Whom::Seat(i) => i,
-        Whom::All => 16,
-        Whom::Nobody => 17,
-    }
-}
-
-// Behind the twelve results there is a count for each seat, one for every seat, and one for nobody.
-fn counted_for(tally: Tally, place: usize) -> Tally
-    ensures { result ≡ counted_at tally (12 + place) }
-{
-    if place < 18 {
-        return counted(tally, 12 + place);
+        Whom::Seat(i) => count_at(&mut tally.seats, i),
+        Whom::All => tally.every = tally.every.wrapping_add(1),
+        Whom::Nobody => tally.nobody = tally.nobody.wrapping_add(1),
     }
     tally
+}
+
+// A count that is full begins anew.
+fn count_at(counts: &mut [u64], i: usize)
+    ensures { counts.new ≡ counted_at counts.old i }
+{
+    if i < counts.len() {
+        counts[i] = counts[i].wrapping_add(1);
+    }
 }
 
 fn tell(
@@ -132,8 +126,12 @@ fn tell(
     match show {
         Show::Frames => send(rt, &out[..sent], &room[..n]),
         Show::Lines => {
-            let end = put_told(out, frame, h, &room[..n]);
-            write_out(rt, &out[..end])
+            let told = Told {
+                frame,
+                heeded: &h,
+                reply: &room[..n],
+            };
+            write_text(rt, told, out)
         }
     }
 }
@@ -146,15 +144,23 @@ fn send(rt: HostRuntime, frames: &[u8], reply: &[u8]) -> bool
 }
 
 pub(crate) fn finish(rt: HostRuntime, show: Show, desk: Desk, out: &mut [u8]) {
-    let seating = desk.seating;
-    let tally = desk.tally;
     match show {
         Show::Frames => {}
         Show::Lines => {
-            let end = put_counts(out, seating, tally);
-            write_out(rt, &out[..end]);
+            let counts = Counts {
+                seating: &desk.seating,
+                tally: &desk.tally,
+            };
+            write_text(rt, counts, out);
         }
     }
+}
+
+// In one write. A line refuses no text: what no longer fits is left out.
+fn write_text<T: Display + Drop>(rt: HostRuntime, text: T, out: &mut [u8]) -> bool {
+    let mut line = Line::new(out);
+    let _ = write!(line, "{text}");
+    write_out(rt, line.laid())
 }
 
 // Whether all of it was written; where not, that is said on standard error.

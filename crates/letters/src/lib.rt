@@ -1,53 +1,62 @@
-// Text laid behind the first `at` bytes of a line; how many bytes are laid then. What no longer fits is left out.
+// Text laid behind what is laid already, in a buffer that is lent. A piece that no longer fits whole is left out.
 #![tactic(auto)]
 
-ghost use Rattle.io.specs.Counts.{IsPrefixLen};
+ghost use Rattle.std.specs.Prelude.{◌≡◌, ◌≤◌, [], length};
 
-use basis::min;
+use std::fmt;
 
-pub fn put(line: &mut [u8], at: usize, text: &[u8]) -> usize
-    ensures { IsPrefixLen result line.new }
-{
-    let from = min(at, line.len());
-    if line.len() - from < text.len() {
-        return from;
+#[derive(Drop)]
+pub struct Line<'a> {
+    bytes: &'a mut [u8],
+    len: usize,
+    ghost inside: { len ≤ length bytes.now },
+}
+
+impl<'a> Line<'a> {
+    ghost use Rattle.letters.specs.Laid.{laid_in};
+
+    // Nothing is laid yet.
+    pub fn new(bytes: &'a mut [u8]) -> Line<'a>
+        ensures laid { laid_in result ≡ [] }
+        ensures bytes { result.bytes.now ≡ bytes.old }
+    {
+        Line { bytes, len: 0 }
     }
-    basis::lay(&mut line[from..], text);
-    from + text.len()
-}
 
-// A space and the byte's two digits.
-pub fn put_byte(line: &mut [u8], at: usize, byte: u8) -> usize
-    ensures { IsPrefixLen result line.new }
-{
-    let text = [b' ', digit(byte / 16), digit(byte % 16)];
-    put(line, at, &text)
-}
-
-fn digit(x: u8) -> u8 {
-    match x {
-        0..=9 => b'0' + x,
-        10..=15 => b'A' + (x - 10),
-        _ => b'?',
+    // What is laid.
+    pub fn laid(&self) -> &[u8]
+        ensures { result.now ≡ laid_in self.now }
+    {
+        &self.bytes[..self.len]
     }
 }
 
-pub fn put_bytes(line: &mut [u8], at: usize, bytes: &[u8]) -> usize
-    ensures { IsPrefixLen result line.new }
-{
-    let mut to = min(at, line.len());
-    let mut i: usize = 0;
-    while i < bytes.len() {
-        to = put_byte(line, to, bytes[i]);
-        i += 1;
+// No piece is refused: what comes behind one that is left out is laid where it fits.
+impl fmt::Write for Line<'_> {
+    ghost use Rattle.letters.specs.Laid.{Lays};
+
+    ghost write_str_gives = { Lays };
+
+    fn write_str(&mut self, text: &str) -> fmt::Result {
+        let from = self.len;
+        let bytes = text.as_bytes();
+        if self.bytes.len() - from >= bytes.len() {
+            basis::lay(&mut self.bytes[from..], bytes);
+            self.len = from + bytes.len();
+        }
+        Ok(())
     }
-    to
 }
 
-pub fn put_number(line: &mut [u8], at: usize, n: u64) -> usize
-    ensures { IsPrefixLen result line.new }
-{
-    let mut text = [0; 20];
-    let k = io::decimal(n, &mut text);
-    put(line, at, &text[..k])
+// Bytes, each behind a space and by its two digits.
+#[derive(Clone, Copy)]
+pub struct Hex<'a>(pub &'a [u8]);
+
+impl fmt::Display for Hex<'_> {
+    fn fmt<W: fmt::Write>(&self, f: &mut fmt::Formatter<W>) -> fmt::Result {
+        for byte in self.0 {
+            write!(f, " {byte:02X}")?;
+        }
+        Ok(())
+    }
 }

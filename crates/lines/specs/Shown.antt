@@ -1,5 +1,5 @@
 -- What the screen shows of a load, and by which list it names a command.
-use Rattle.std.specs.Prelude.{ℕ, Bool, true, false, eqb, ltb, get_or}
+use Rattle.std.specs.Prelude.{ℕ, Bool, true, false, eqb, ltb, get_or, Option, Some, None}
 use Rattle.basis.specs.Choice.{choose}
 use Rattle.load.specs.declared.state.Load.{Load}
 use Rattle.row.specs.declared.progress.Whom.{Whom}
@@ -17,11 +17,12 @@ abbrev pub shown_of : Load → LoadShown
 shown_of (Load.Dimmer lamp) = LoadShown.Level lamp.level
 shown_of (Load.Outlet sockets) = LoadShown.Sockets sockets.top sockets.bottom
 
-unfoldable pub shown_at : Seating → ℕ → LoadShown
-shown_at s i = choose (ltb i 16) (shown_of (get_or s.row i blank).load) LoadShown.Any
+-- there are sixteen seats
+unfoldable pub shown_at : Seating → ℕ → Option LoadShown
+shown_at s i = choose (ltb i 16) (Some (shown_of (get_or s.row i blank).load)) None
 
 -- that of the seat it is for; where it is for none of them, or for all, any kind's
-abbrev pub shown_for : Seating → Whom → LoadShown
+abbrev pub shown_for : Seating → Whom → Option LoadShown
 shown_for s (Whom.Seat i) = shown_at s i
-shown_for s Whom.All = LoadShown.Any
-shown_for s Whom.Nobody = LoadShown.Any
+shown_for s Whom.All = None
+shown_for s Whom.Nobody = None

@@ -1,20 +1,27 @@
 // How many frames had each result, and in a class how many were for each seat.
-ghost use Rattle.io.specs.Counts.{IsPrefixLen};
-
 use seating::heed::Seating;
-use text::line::{Tally, put_seats, put_tally};
+use std::fmt;
+use text::tally::{ByResult, BySeat, Tally};
 
-// A module alone has nine results, a class has twelve. Over sixteen nobody is served, and no seat is listed.
-pub fn put_counts(line: &mut [u8], s: Seating, tally: Tally) -> usize
-    ensures { IsPrefixLen result line.new }
-{
-    if s.is_class {
-        let at = put_tally(line, tally, 12);
-        return put_seats(line, at, tally, listed(s.count));
-    }
-    put_tally(line, tally, 9)
+#[derive(Clone, Copy)]
+pub struct Counts<'a> {
+    pub seating: &'a Seating,
+    pub tally: &'a Tally,
 }
 
-fn listed(count: usize) -> usize {
-    if count <= 16 { count } else { 0 }
+// A module alone has nine results, a class has twelve. Over sixteen nobody is served, and no seat is listed.
+impl fmt::Display for Counts<'_> {
+    fn fmt<W: fmt::Write>(&self, f: &mut fmt::Formatter<W>) -> fmt::Result {
+        let results = &self.tally.results;
+        if !self.seating.is_class {
+            let alone = ByResult(&results[..9]);
+            return write!(f, "{alone}");
+        }
+        let by_result = ByResult(results);
+        let by_seat = BySeat {
+            seats: self.tally.seats.get(..self.seating.count).unwrap_or(&[]),
+            every: self.tally.every,
+        };
+        write!(f, "{by_result}{by_seat}")
+    }
 }

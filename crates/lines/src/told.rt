@@ -1,54 +1,47 @@
 // What came of a frame, as the screen has it.
-ghost use Rattle.std.specs.Prelude.{◌≡◌, ◌<◌};
-ghost use Rattle.io.specs.Counts.{IsPrefixLen};
+ghost use Rattle.std.specs.Prelude.{◌≡◌};
 ghost use Rattle.lines.specs.Shown.{shown_of, shown_at, shown_for, is_for};
 
-use basis::min;
 use load::state::Load;
-use module::state::Module;
 use names::LoadShown;
 use row::progress::Whom;
 use seating::heed::{Heeded, Seating};
-use text::line::{Shown, put_end, put_heard, put_line, put_seat};
+use std::fmt;
+use text::line::Heard;
 
-// The frame's line, laid over the start of `line`; how many bytes it has there.
-pub fn put_told(line: &mut [u8], frame: &[u8], h: Heeded, reply: &[u8]) -> usize
-    ensures { IsPrefixLen result line.new }
-{
-    let next = h.next;
-    if next.is_class {
-        return put_class(line, frame, h, reply);
-    }
-    put_line(line, frame, shown(h), reply)
+// A line: what was heard, and what the load is at, in a class that of the seat that it was for, or of every one.
+#[derive(Clone, Copy)]
+pub struct Told<'a> {
+    pub frame: &'a [u8],
+    pub heeded: &'a Heeded,
+    pub reply: &'a [u8],
 }
 
-// The seat that it was for, or every one.
-fn put_class(line: &mut [u8], frame: &[u8], h: Heeded, reply: &[u8]) -> usize
-    ensures { IsPrefixLen result line.new }
-{
-    let next = h.next;
-    let row = next.row;
-    let whom = h.whom;
-    let n = min(next.count, 16);
-    let mut at = put_heard(line, frame, shown(h), reply);
-    let mut i: usize = 0;
-    while i < n {
-        at = put_seat_if(line, at, whom, i, row[i]);
-        i += 1;
+impl fmt::Display for Told<'_> {
+    fn fmt<W: fmt::Write>(&self, f: &mut fmt::Formatter<W>) -> fmt::Result {
+        let heeded = self.heeded;
+        let heard = heard(self.frame, heeded, self.reply);
+        write!(f, "{heard}")?;
+        let next = &heeded.next;
+        if next.is_class {
+            write_seats(f, next, heeded.whom)?;
+        } else if let Some(load) = heard.load {
+            write!(f, " | {load}")?;
+        }
+        writeln!(f)
     }
-    put_end(line, at)
 }
 
 // Seats are told by the number of their line.
-fn put_seat_if(line: &mut [u8], at: usize, whom: Whom, i: usize, m: Module) -> usize
-    requires { i < 16 }
-    ensures { IsPrefixLen result line.new }
-{
-    if is_for(whom, i) {
-        let load = m.load;
-        return put_seat(line, at, i as u64 + 1, load_shown(load));
+fn write_seats<W: fmt::Write>(f: &mut fmt::Formatter<W>, s: &Seating, whom: Whom) -> fmt::Result {
+    for (i, m) in s.row.iter().take(s.count).enumerate() {
+        if is_for(whom, i) {
+            let seat = i + 1;
+            let load = load_shown(m.load);
+            write!(f, " | seat {seat} | {load}")?;
+        }
     }
-    min(at, line.len())
+    Ok(())
 }
 
 fn is_for(whom: Whom, i: usize) -> bool
@@ -61,39 +54,38 @@ fn is_for(whom: Whom, i: usize) -> bool
     }
 }
 
-fn shown(h: Heeded) -> Shown
-    ensures { result ≡ record { result = h.number; read = h.read; load = shown_for h.next h.whom } }
+fn heard<'a>(frame: &'a [u8], h: &Heeded, reply: &'a [u8]) -> Heard<'a>
+    ensures number { result.number ≡ h.now.number }
+    ensures read { result.read ≡ h.now.read }
+    ensures load { result.load ≡ shown_for h.now.next h.now.whom }
+    ensures bytes { (result.frame.now ≡ frame.now) × (result.reply.now ≡ reply.now) }
 {
-    let next = h.next;
-    let whom = h.whom;
-    Shown {
-        result: h.number,
+    Heard {
+        number: h.number,
+        frame,
+        load: shown_for(&h.next, h.whom),
+        reply,
         read: h.read as u64,
-        load: shown_for(next, whom),
     }
 }
 
 // The list that names a command is that of the seat that it is for. What is for none of them, or for all, goes by every list.
-fn shown_for(s: Seating, whom: Whom) -> LoadShown
-    ensures { result ≡ shown_for s whom }
+fn shown_for(s: &Seating, whom: Whom) -> Option<LoadShown>
+    ensures { result ≡ shown_for s.now whom }
 {
     match whom {
         Whom::Seat(i) => shown_at(s, i),
-        Whom::All => LoadShown::Any,
-        Whom::Nobody => LoadShown::Any,
+        Whom::All | Whom::Nobody => None,
     }
 }
 
-fn shown_at(s: Seating, i: usize) -> LoadShown
-    ensures { result ≡ shown_at s i }
+fn shown_at(s: &Seating, i: usize) -> Option<LoadShown>
+    ensures { result ≡ shown_at s.now i }
 {
-    if i < 16 {
-        let row = s.row;
-        let m = row[i];
-        let load = m.load;
-        return load_shown(load);
+    match s.row.get(i) {
+        Some(m) => Some(load_shown(m.load)),
+        None => None,
     }
-    LoadShown::Any
 }
 
 fn load_shown(load: Load) -> LoadShown

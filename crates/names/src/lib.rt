@@ -2,9 +2,7 @@
 // tables of the kinds list it.
 #![tactic(auto)]
 
-ghost use Rattle.io.specs.Counts.{IsPrefixLen};
-
-use letters::put;
+use std::fmt;
 use wire::command::{Command, Extended, GroupCommand, ModuleCommand, OpenCommand, Standard};
 use wire::kind::MessageKind;
 
@@ -14,159 +12,122 @@ pub enum LoadShown {
     Level(u8),
     // The top one and the bottom one, on or off.
     Sockets(bool, bool),
-    // Of no single module: a command has its name where any kind lists it.
-    Any,
 }
 
-pub fn put_kind(line: &mut [u8], at: usize, kind: MessageKind) -> usize
-    ensures { IsPrefixLen result line.new }
-{
-    match kind {
-        MessageKind::Direct(_, _) => put(line, at, b" | direct"),
-        MessageKind::Cleanup(_, _) => put(line, at, b" | cleanup"),
-        MessageKind::Broadcast(_, _, _) => put(line, at, b" | broadcast"),
-        MessageKind::Foreign => put(line, at, b" | other"),
+impl fmt::Display for LoadShown {
+    fn fmt<W: fmt::Write>(&self, f: &mut fmt::Formatter<W>) -> fmt::Result {
+        match *self {
+            LoadShown::Level(level) => write!(f, "level {level:02X}"),
+            LoadShown::Sockets(top, bottom) => {
+                write!(f, "top {}, bottom {}", switch(top), switch(bottom))
+            }
+        }
     }
 }
 
-// What the lists for a module with such a load call it. A foreign message is in none of them: its bytes alone are shown.
-pub fn put_name(line: &mut [u8], at: usize, kind: MessageKind, load: LoadShown) -> usize
-    ensures { IsPrefixLen result line.new }
-{
-    match kind {
-        MessageKind::Direct(r, command) => put_direct(line, at, r.command1, command, load),
-        MessageKind::Cleanup(_, command) => put_group_command(line, at, command),
-        MessageKind::Broadcast(_, _, command) => put_group_command(line, at, command),
-        MessageKind::Foreign => put(line, at, b""),
+fn switch(is_on: bool) -> &'static str {
+    if is_on { "on" } else { "off" }
+}
+
+// A kind of message, by its name.
+#[derive(Clone, Copy)]
+pub struct KindShown(pub MessageKind);
+
+impl fmt::Display for KindShown {
+    fn fmt<W: fmt::Write>(&self, f: &mut fmt::Formatter<W>) -> fmt::Result {
+        f.write_str(match self.0 {
+            MessageKind::Direct(_, _) => "direct",
+            MessageKind::Cleanup(_, _) => "cleanup",
+            MessageKind::Broadcast(_, _, _) => "broadcast",
+            MessageKind::Foreign => "other",
+        })
     }
 }
 
-fn put_direct(line: &mut [u8], at: usize, command1: u8, command: Command, load: LoadShown) -> usize
-    ensures { IsPrefixLen result line.new }
-{
+// What the lists for a module with such a load call a command; of no single module, any list that has it.
+#[derive(Clone, Copy)]
+pub struct Asked {
+    pub kind: MessageKind,
+    pub load: Option<LoadShown>,
+}
+
+// A foreign message is in none of the lists: its bytes alone are shown.
+impl fmt::Display for Asked {
+    fn fmt<W: fmt::Write>(&self, f: &mut fmt::Formatter<W>) -> fmt::Result {
+        match self.kind {
+            MessageKind::Direct(r, command) => {
+                write!(f, " {}", direct(r.command1, command, self.load))
+            }
+            MessageKind::Cleanup(_, command) => write!(f, " {}", group_command(command)),
+            MessageKind::Broadcast(_, _, command) => write!(f, " {}", group_command(command)),
+            MessageKind::Foreign => Ok(()),
+        }
+    }
+}
+
+const UNLISTED: &str = "(not listed)";
+
+fn direct(command1: u8, command: Command, load: Option<LoadShown>) -> &'static str {
     match command {
-        Command::Standard(standard) => put_standard(line, at, command1, standard, load),
-        Command::Extended(extended) => put_extended(line, at, command1, extended, load),
+        Command::Standard(Standard::Open(open)) => open_command(open),
+        Command::Standard(Standard::Module(common)) => module_command(common),
+        Command::Standard(Standard::Load) => load_command(command1, load),
+        Command::Extended(Extended::SetFlags) => "set flags",
+        Command::Extended(Extended::Properties) => "properties",
+        Command::Extended(Extended::Database) => "database",
+        Command::Extended(Extended::Load) => second_command(command1, load),
     }
 }
 
-fn put_standard(
-    line: &mut [u8],
-    at: usize,
-    command1: u8,
-    command: Standard,
-    load: LoadShown,
-) -> usize
-    ensures { IsPrefixLen result line.new }
-{
+fn open_command(command: OpenCommand) -> &'static str {
     match command {
-        Standard::Open(open) => put_open_command(line, at, open),
-        Standard::Module(common) => put_module_command(line, at, common),
-        Standard::Load => put_load_command(line, at, command1, load),
+        OpenCommand::Ping => "ping",
+        OpenCommand::IdRequest => "ID request",
     }
 }
 
-fn put_open_command(line: &mut [u8], at: usize, command: OpenCommand) -> usize
-    ensures { IsPrefixLen result line.new }
-{
+fn module_command(command: ModuleCommand) -> &'static str {
     match command {
-        OpenCommand::Ping => put(line, at, b" ping"),
-        OpenCommand::IdRequest => put(line, at, b" ID request"),
+        ModuleCommand::EngineVersion => "engine version",
+        ModuleCommand::ReadFlags => "get flags",
+        ModuleCommand::Beep => "beep",
     }
 }
 
-fn put_module_command(line: &mut [u8], at: usize, command: ModuleCommand) -> usize
-    ensures { IsPrefixLen result line.new }
-{
-    match command {
-        ModuleCommand::EngineVersion => put(line, at, b" engine version"),
-        ModuleCommand::ReadFlags => put(line, at, b" get flags"),
-        ModuleCommand::Beep => put(line, at, b" beep"),
+// An outlet has three of them.
+fn load_command(command1: u8, load: Option<LoadShown>) -> &'static str {
+    match (command1, load) {
+        (0x11, _) => "on",
+        (0x13, _) => "off",
+        (0x19, _) => "status",
+        (_, Some(LoadShown::Sockets(_, _))) => UNLISTED,
+        (0x12, _) => "fast on",
+        (0x21, _) => "set level",
+        (0x14, _) => "fast off",
+        (0x15, _) => "brighten",
+        (0x16, _) => "dim",
+        (0x2e, _) => "on at ramp rate",
+        (0x2f, _) => "off at ramp rate",
+        (0x39, _) => "set per cent",
+        _ => UNLISTED,
     }
 }
 
-fn put_load_command(line: &mut [u8], at: usize, command1: u8, load: LoadShown) -> usize
-    ensures { IsPrefixLen result line.new }
-{
-    match command1 {
-        0x11 => put(line, at, b" on"),
-        0x12 => put_for_lamp(line, at, load, b" fast on"),
-        0x21 => put_for_lamp(line, at, load, b" set level"),
-        0x13 => put(line, at, b" off"),
-        0x14 => put_for_lamp(line, at, load, b" fast off"),
-        0x15 => put_for_lamp(line, at, load, b" brighten"),
-        0x16 => put_for_lamp(line, at, load, b" dim"),
-        0x19 => put(line, at, b" status"),
-        0x2e => put_for_lamp(line, at, load, b" on at ramp rate"),
-        0x2f => put_for_lamp(line, at, load, b" off at ramp rate"),
-        0x39 => put_for_lamp(line, at, load, b" set per cent"),
-        _ => put_unlisted(line, at),
-    }
-}
-
-fn put_extended(
-    line: &mut [u8],
-    at: usize,
-    command1: u8,
-    command: Extended,
-    load: LoadShown,
-) -> usize
-    ensures { IsPrefixLen result line.new }
-{
-    match command {
-        Extended::SetFlags => put(line, at, b" set flags"),
-        Extended::Properties => put(line, at, b" properties"),
-        Extended::Database => put(line, at, b" database"),
-        Extended::Load => put_second_command(line, at, command1, load),
-    }
-}
-
-// Those to the second socket of an outlet.
-fn put_second_command(line: &mut [u8], at: usize, command1: u8, load: LoadShown) -> usize
-    ensures { IsPrefixLen result line.new }
-{
-    match command1 {
-        0x11 => put_for_sockets(line, at, load, b" on"),
-        0x13 => put_for_sockets(line, at, load, b" off"),
-        _ => put_unlisted(line, at),
-    }
-}
-
-// A command that dimmers alone have.
-fn put_for_lamp(line: &mut [u8], at: usize, load: LoadShown, name: &[u8]) -> usize
-    ensures { IsPrefixLen result line.new }
-{
-    match load {
-        LoadShown::Level(_) => put(line, at, name),
-        LoadShown::Sockets(_, _) => put_unlisted(line, at),
-        LoadShown::Any => put(line, at, name),
-    }
-}
-
-// A command that outlets alone have.
-fn put_for_sockets(line: &mut [u8], at: usize, load: LoadShown, name: &[u8]) -> usize
-    ensures { IsPrefixLen result line.new }
-{
-    match load {
-        LoadShown::Level(_) => put_unlisted(line, at),
-        LoadShown::Sockets(_, _) => put(line, at, name),
-        LoadShown::Any => put(line, at, name),
+// Those to the second socket of an outlet: a dimmer has none.
+fn second_command(command1: u8, load: Option<LoadShown>) -> &'static str {
+    match (command1, load) {
+        (_, Some(LoadShown::Level(_))) => UNLISTED,
+        (0x11, _) => "on",
+        (0x13, _) => "off",
+        _ => UNLISTED,
     }
 }
 
 // What a broadcast or a cleanup tells its group, fast or not.
-fn put_group_command(line: &mut [u8], at: usize, command: GroupCommand) -> usize
-    ensures { IsPrefixLen result line.new }
-{
+fn group_command(command: GroupCommand) -> &'static str {
     match command {
-        GroupCommand::On => put(line, at, b" on"),
-        GroupCommand::Off => put(line, at, b" off"),
-        GroupCommand::Unlisted => put_unlisted(line, at),
+        GroupCommand::On => "on",
+        GroupCommand::Off => "off",
+        GroupCommand::Unlisted => UNLISTED,
     }
-}
-
-fn put_unlisted(line: &mut [u8], at: usize) -> usize
-    ensures { IsPrefixLen result line.new }
-{
-    put(line, at, b" (not listed)")
 }

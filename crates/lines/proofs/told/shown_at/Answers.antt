@@ -3,10 +3,10 @@ use Rattle.basis.specs.Choice.{choose}
 use Rattle.lines.specs.Shown.{shown_at}
 use Rattle.lines.proofs.told.shown_at.Goals as goal
 
-pub returns-then-i-lt16 : goal.returns-then-i-lt16
+pub returns-in-Some : goal.returns-in-Some
 unfolding shown_at choose
-returns-then-i-lt16 c = search rules
+returns-in-Some c = search rules
 
-pub returns : goal.returns
+pub returns-in-None : goal.returns-in-None
 unfolding shown_at choose
-returns c = search rules
+returns-in-None c = search rules

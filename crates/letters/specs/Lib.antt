@@ -1,0 +1,2 @@
+-- What is laid in a line.
+pub mod Laid

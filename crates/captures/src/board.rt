@@ -1,223 +1,168 @@
 // What a case is played on: a module, its link memory, the room, and what came out of the last message.
-ghost use Rattle.io.specs.Counts.{IsPrefixLen};
-
-use crate::text::{bare_size, bytes_in, number_in};
-use basis::min;
+use crate::compare::Mismatch;
+use crate::text::{Spelling, bytes_in, number_in};
+use crate::values::with_named;
+use arrayvec::ArrayVec;
 use embed::call::dreelish_step;
 use image::places;
 
 // What the room holds before a message.
 pub(crate) const BLANK: u8 = 0xee;
 
-// A module, byte by byte.
-pub(crate) type Image = [u8; places::LENGTH];
-
 // What a byte holds that no value of a fresh module stands at, so that a write there would be shown.
 const UNUSED: u8 = 0xa5;
 
-#[derive(Clone, Copy)]
-pub(crate) struct State {
-    pub module: Image,
-    pub links: [u8; 2056],
-    pub size: usize,
-}
+// A module, byte by byte.
+pub(crate) type Image = [u8; places::LENGTH];
 
 #[derive(Clone, Copy)]
-pub(crate) struct Board {
-    pub start: State,
-    pub now: State,
-    // the module before the last message
-    pub before: Image,
-    pub room: [u8; 5897],
-    pub room_size: usize,
-    pub result: u64,
-    pub report: [u64; 2],
-    pub title: [u8; 160],
-    pub title_size: usize,
-    pub cases: u64,
-    pub compared: u64,
-    pub differ: u64,
+pub(crate) enum Kind {
+    Dimmer,
+    Outlet,
 }
 
-// Fresh modules, but for the seven bytes that say who they are.
-pub(crate) fn fresh_dimmer() -> Image {
-    let mut image = fresh(places::DIMMER);
-    image[places::LEVEL] = 0x00;
-    image[places::RAMP] = 0x1f;
-    image[places::ON_LEVEL] = 0xff;
-    image
-}
-
-pub(crate) fn fresh_outlet() -> Image {
-    let mut image = fresh(places::OUTLET);
-    image[places::TOP] = 0x00;
-    image[places::BOTTOM] = 0x00;
-    image
-}
-
-fn fresh(kind: u8) -> Image {
+// A fresh module, but for the seven bytes that say who it is.
+fn fresh(kind: Kind) -> Image {
     let mut image = [UNUSED; places::LENGTH];
-    image[places::KIND] = kind;
     image[places::FLAGS] = 0x00;
     image[places::LED] = 0x3f;
     image[places::HOUSE] = 0x20;
     image[places::UNIT] = 0x20;
     image[places::DELTA] = 0x00;
+    match kind {
+        Kind::Dimmer => {
+            image[places::KIND] = places::DIMMER;
+            image[places::LEVEL] = 0x00;
+            image[places::RAMP] = 0x1f;
+            image[places::ON_LEVEL] = 0xff;
+        }
+        Kind::Outlet => {
+            image[places::KIND] = places::OUTLET;
+            image[places::TOP] = 0x00;
+            image[places::BOTTOM] = 0x00;
+        }
+    }
     image
 }
 
-pub(crate) fn blank() -> Board {
-    let dimmer = fresh_dimmer();
-    let state = State {
-        module: dimmer,
-        links: [0; 2056],
-        size: 0,
-    };
-    Board {
-        start: state,
-        now: state,
-        before: dimmer,
-        room: [BLANK; 5897],
-        room_size: 5897,
-        result: 0,
-        report: [0; 2],
-        title: [b' '; 160],
-        title_size: 0,
-        cases: 0,
-        compared: 0,
-        differ: 0,
+#[derive(Drop)]
+pub(crate) struct State {
+    pub module: Image,
+    pub links: ArrayVec<u8, 2056>,
+    // A link memory longer than that was asked for: nothing is heard then. The bytes stay for a later `fill`, so that this is no Option.
+    pub is_overlong: bool,
+}
+
+impl State {
+    fn new() -> State {
+        State {
+            module: fresh(Kind::Dimmer),
+            links: ArrayVec::new(),
+            is_overlong: false,
+        }
     }
+
+    fn copy_from(&mut self, other: &State) {
+        self.module = other.module;
+        self.links.clear();
+        let _ = self.links.try_extend_from_slice(other.links.as_slice());
+        self.is_overlong = other.is_overlong;
+    }
+}
+
+#[derive(Drop)]
+pub(crate) struct Board {
+    start: State,
+    pub now: State,
+    // the module before the last message
+    pub before: Image,
+    pub room: [u8; 5897],
+    // How much of the room is lent to a message, which leaves the rest as it is. Where it is more than there is, nothing is heard.
+    lent: usize,
+    pub result: u64,
+    pub report: [u64; 2],
 }
 
 impl Board {
-    pub(crate) fn identified(mut self, line: &[u8], fresh: Image) -> Board {
-        let mut module = fresh;
-        bytes_to(line, &mut module[1..8]);
-        let mut now = self.now;
-        now.module = module;
-        self.now = now;
-        self
+    pub(crate) fn new() -> Board {
+        Board {
+            start: State::new(),
+            now: State::new(),
+            before: fresh(Kind::Dimmer),
+            room: [BLANK; 5897],
+            lent: 5897,
+            result: 0,
+            report: [0; 2],
+        }
     }
 
-    pub(crate) fn with_links(mut self, line: &[u8]) -> Board {
-        let mut links = [0; 2056];
-        let size = bytes_to(line, &mut links);
-        let mut now = self.now;
-        now.links = links;
-        now.size = size;
-        self.now = now;
-        self
+    pub(crate) fn identify(&mut self, kind: Kind, line: &[u8]) {
+        let mut module = fresh(kind);
+        let identity = &mut module[places::HIGH..=places::REVISION];
+        for (byte, spelled) in identity.iter_mut().zip(Spelling(line)) {
+            *byte = spelled.value();
+        }
+        self.now.module = module;
     }
 
-    // Cut, or with 00 behind.
-    pub(crate) fn filled(mut self, line: &[u8]) -> Board {
+    // The values that a line names, and the others as they are.
+    pub(crate) fn set_values(&mut self, line: &[u8]) -> Result<(), Mismatch<'static>> {
+        self.now.module = with_named(&self.now.module, line).ok_or(Mismatch::NotUnderstood)?;
+        Ok(())
+    }
+
+    pub(crate) fn set_links(&mut self, line: &[u8]) {
+        self.now.links = bytes_in(line);
+        self.now.is_overlong = false;
+    }
+
+    // The link memory cut, or with 00 behind.
+    pub(crate) fn fill(&mut self, line: &[u8]) {
         let size = number_in(line);
-        let mut now = self.now;
-        let before = now.links;
-        let links = cut(before, size);
-        now.links = links;
-        now.size = size;
-        self.now = now;
-        self
+        let links = &mut self.now.links;
+        self.now.is_overlong = size > links.capacity();
+        if self.now.is_overlong {
+            return;
+        }
+        links.truncate(size);
+        for _ in links.len()..size {
+            let _ = links.try_push(0x00);
+        }
     }
 
-    pub(crate) fn kept(mut self) -> Board {
-        let now = self.now;
-        self.start = now;
-        self
+    pub(crate) fn keep(&mut self) {
+        self.start.copy_from(&self.now);
     }
 
-    pub(crate) fn started(mut self, line: &[u8]) -> Board {
-        let start = self.start;
-        let mut title = [b' '; 160];
-        let n = bare_size(line);
-        basis::lay(&mut title, &line[..n]);
-        self.title_size = n;
-        self.now = start;
-        self.room_size = 5897;
-        self.title = title;
-        self.cases = std::num::wrapping_add_u64(self.cases, 1);
-        self
+    pub(crate) fn begin(&mut self) {
+        self.now.copy_from(&self.start);
+        self.lent = 5897;
     }
 
-    pub(crate) fn with_room(mut self, line: &[u8]) -> Board {
-        self.room_size = number_in(line);
-        self
+    pub(crate) fn set_room(&mut self, line: &[u8]) {
+        self.lent = number_in(line);
     }
-}
 
-// The first bytes, and 00 behind them.
-fn cut(links: [u8; 2056], size: usize) -> [u8; 2056] {
-    let mut cut = [0; 2056];
-    if size > 2056 {
-        return links;
+    pub(crate) fn hear(&mut self, line: &[u8]) {
+        let message: ArrayVec<u8, 64> = bytes_in(line);
+        let mut room = [BLANK; 5897];
+        let mut report = [0; 2];
+        let Some(lent) = room.get_mut(..self.lent) else {
+            return;
+        };
+        if self.now.is_overlong {
+            return;
+        }
+        let before = self.now.module;
+        self.result = dreelish_step(
+            &mut self.now.module,
+            self.now.links.as_mut_slice(),
+            message.as_slice(),
+            lent,
+            &mut report,
+        );
+        self.before = before;
+        self.room = room;
+        self.report = report;
     }
-    basis::lay(&mut cut, &links[0..size]);
-    cut
-}
-
-pub(crate) fn hear(board: Board, line: &[u8]) -> Board {
-    let mut message = [0; 64];
-    let n = bytes_to(line, &mut message);
-    let now = board.now;
-    let module = now.module;
-    let links = now.links;
-    stepped(board, module, links, &message[..n])
-}
-
-fn stepped(board: Board, module: Image, links: [u8; 2056], message: &[u8]) -> Board {
-    let mut next = board;
-    let mut now = board.now;
-    let size = now.size;
-    let k = board.room_size;
-    let before = module;
-    let mut module = module;
-    let mut links = links;
-    let mut room = [BLANK; 5897];
-    let mut report = [0; 2];
-    if size > 2056 {
-        return next;
-    }
-    if k > 5897 {
-        return next;
-    }
-    next.result = dreelish_step(
-        &mut module,
-        &mut links[0..size],
-        message,
-        &mut room[0..k],
-        &mut report,
-    );
-    now.module = module;
-    now.links = links;
-    next.now = now;
-    next.before = before;
-    next.room = room;
-    next.report = report;
-    next
-}
-
-// The bytes written in a line, as far as there is room for them.
-fn bytes_to(line: &[u8], to: &mut [u8]) -> usize
-    ensures { IsPrefixLen result to.new }
-{
-    let mut bytes = [0; 2056];
-    let n = bytes_in(line, &mut bytes);
-    copy(&bytes[..n], to)
-}
-
-fn copy(bytes: &[u16], to: &mut [u8]) -> usize
-    ensures { IsPrefixLen result to.new }
-{
-    let n = min(bytes.len(), to.len());
-    let mut i: usize = 0;
-    while i < n {
-        to[i] = low(bytes[i]);
-        i += 1;
-    }
-    i
-}
-
-fn low(x: u16) -> u8 {
-    (x % 256) as u8
 }

@@ -17,14 +17,15 @@ ghost use Rattle.io.specs.Counts.{IsPrefixLen};
 
 mod board;
 mod compare;
+mod tally;
 mod text;
 mod values;
 
-use board::{Board, blank, fresh_dimmer, fresh_outlet, hear};
-use compare::told;
+use board::{Board, Kind};
+use compare::compare;
 use std::io::Read;
-use text::line_end;
-use values::{expected, given};
+use tally::Tally;
+use text::goes_on;
 
 fn main(rt: HostRuntime) {
     let mut text = [0; 131072];
@@ -48,40 +49,34 @@ fn read_full(rt: HostRuntime, text: &mut [u8]) -> usize
 }
 
 fn run(rt: HostRuntime, text: &[u8]) {
-    let mut board = blank();
-    let mut at: usize = 0;
-    while at < text.len() {
-        let end = line_end(text, at);
-        board = take(rt, board, &text[at..end]);
-        at = end;
+    let mut board = Board::new();
+    let mut tally = Tally::new();
+    for line in text.chunk_by(|before, next| goes_on(*before, *next)) {
+        take(rt, &mut board, &mut tally, line);
     }
-    finish(rt, board);
-}
-
-fn finish(rt: HostRuntime, board: Board) {
-    let cases = board.cases;
-    let compared = board.compared;
-    let differ = board.differ;
-    let _ = println!(rt; "{cases} cases, {compared} compared, {differ} differ");
+    let _ = println!(rt; "{tally}");
 }
 
 // The first letter of a line decides.
-fn take(rt: HostRuntime, board: Board, line: &[u8]) -> Board {
-    if line.len() == 0 {
-        return board;
-    }
-    match line[0] {
-        b'#' | b'\n' => board,
-        b'i' => board.identified(line, fresh_dimmer()),
-        b'o' => board.identified(line, fresh_outlet()),
-        b'w' => given(rt, board, line),
-        b'l' => board.with_links(line),
-        b'f' => board.filled(line),
-        b'k' => board.kept(),
-        b'c' => board.started(line),
-        b'r' => board.with_room(line),
-        b'h' => hear(board, line),
-        b't' => expected(rt, board, line),
-        _ => told(rt, board, line),
+fn take(rt: HostRuntime, board: &mut Board, tally: &mut Tally, line: &[u8]) {
+    match line {
+        [] | [b'#' | b'\n', ..] => {}
+        [b'i', ..] => board.identify(Kind::Dimmer, line),
+        [b'o', ..] => board.identify(Kind::Outlet, line),
+        [b'w', ..] => {
+            if let Err(mismatch) = board.set_values(line) {
+                tally.count(rt, line, Err(mismatch));
+            }
+        }
+        [b'l', ..] => board.set_links(line),
+        [b'f', ..] => board.fill(line),
+        [b'k', ..] => board.keep(),
+        [b'c', ..] => {
+            board.begin();
+            tally.begin(line);
+        }
+        [b'r', ..] => board.set_room(line),
+        [b'h', ..] => board.hear(line),
+        _ => tally.count(rt, line, compare(board, line)),
     }
 }

@@ -1,158 +1,111 @@
 // Lines of text, and the numbers and bytes in them.
-ghost use Rattle.std.specs.Prelude.{◌+◌, ◌<◌, ◌≤◌, length};
-ghost use Rattle.io.specs.Counts.{IsPrefixLen};
+ghost use Rattle.std.specs.Prelude.{◌<◌, length, IfSome};
+ghost use Rattle.std.specs.Iterator.{at_most};
 
-// Stands for any byte.
-pub(crate) const ANY: u16 = 256;
+use arrayvec::ArrayVec;
 
-const NONE: u16 = 257;
+// What a line spells for a byte: two capital digits, or `..` for any.
+#[derive(Clone, Copy, PartialEq, Eq)]
+pub(crate) enum Spelled {
+    Any,
+    Byte(u8),
+}
 
-// Behind the line that begins at `at`, with all that go on with it.
-pub(crate) fn line_end(text: &[u8], at: usize) -> usize
-    requires { at < length text.now }
-    ensures lower_bound { at < result }
-    ensures upper_bound { result ≤ length text.now }
-{
-    let mut end = at + 1;
-    while end < text.len() {
-        if is_break(text, end) {
-            break;
+impl Spelled {
+    pub(crate) fn is_met(self, came: u8) -> bool {
+        match self {
+            Spelled::Any => true,
+            Spelled::Byte(byte) => byte == came,
         }
-        end += 1;
     }
-    end
-}
 
-// A new line begins at `end`, and goes on with none.
-fn is_break(text: &[u8], end: usize) -> bool
-    requires end_nonzero { 0 < end }
-    requires end_in_bounds { end < length text.now }
-{
-    (text[end - 1] == b'\n') & (text[end] != b'+')
-}
-
-// Where the next word begins: behind the first space from `at` on.
-pub(crate) fn next_word(line: &[u8], at: usize) -> usize
-    requires { at ≤ length line.now }
-    ensures lower_bound { at ≤ result }
-    ensures upper_bound { result ≤ length line.now }
-{
-    let mut i = at;
-    while i < line.len() {
-        if line[i] == b' ' {
-            return i + 1;
+    // What stands in a message or a memory: any byte is 00 there.
+    pub(crate) fn value(self) -> u8 {
+        match self {
+            Spelled::Any => 0x00,
+            Spelled::Byte(byte) => byte,
         }
-        i += 1;
     }
-    i
 }
 
-pub(crate) fn is_equal(a: &[u8], b: &[u8]) -> bool {
-    if a.len() != b.len() {
-        return false;
-    }
-    let mut i: usize = 0;
-    while i < a.len() {
-        if a[i] != b[i] {
-            return false;
+// The bytes that a line spells, in turn. Whatever else stands there is passed over.
+#[derive(Clone, Copy)]
+pub(crate) struct Spelling<'a>(pub &'a [u8]);
+
+impl<'a> Iterator for Spelling<'a> {
+    type Item = Spelled;
+
+    ghost remaining = { λ s. at_most (length s.0.now) };
+
+    fn next(&mut self) -> Option<Spelled> {
+        while let [a, b, rest @ ..] = self.0 {
+            if let Some(byte) = pair(*a, *b) {
+                self.0 = rest;
+                return Some(byte);
+            }
+            self.0 = &self.0[1..];
         }
-        i += 1;
+        None
     }
-    true
 }
 
-// How long a line is without its end.
-pub(crate) fn bare_size(line: &[u8]) -> usize
-    ensures { IsPrefixLen result line.now }
-{
-    let n = line.len();
-    if n == 0 {
-        return n;
-    }
-    if line[n - 1] == b'\n' { n - 1 } else { n }
+// A line goes on over this break: the next one begins with `+`.
+pub(crate) fn goes_on(before: u8, next: u8) -> bool {
+    before != b'\n' || next == b'+'
 }
 
-// The number written in a line.
+// A line without its end.
+pub(crate) fn bare(line: &[u8]) -> &[u8] {
+    line.strip_suffix(b"\n").unwrap_or(line)
+}
+
+// The number written in a line: all of its digits, as far as they fit.
 pub(crate) fn number_in(line: &[u8]) -> usize {
-    let mut n: usize = 0;
-    let mut i: usize = 0;
-    while i < line.len() {
-        n = with_digit(n, line[i]);
-        i += 1;
-    }
-    n
+    line.iter().fold(0, |n, c| with_digit(n, *c))
 }
 
 fn with_digit(n: usize, c: u8) -> usize {
-    if n > 1000000 {
-        return n;
-    }
     match c {
-        b'0'..=b'9' => 10 * n + (c - b'0') as usize,
+        b'0'..=b'9' if n <= 1000000 => 10 * n + usize::from(c - b'0'),
         _ => n,
     }
 }
 
-// The bytes written in a line, each by two capital digits or `..`; how many there are.
-pub(crate) fn bytes_in(line: &[u8], bytes: &mut [u16]) -> usize
-    ensures { IsPrefixLen result bytes.new }
-{
-    let mut n: usize = 0;
-    let mut i: usize = 1;
-    while i < line.len() {
-        let k = put_pair(bytes, n, line[i - 1], line[i]);
-        // behind a pair the next one begins no sooner than with its second neighbour
-        i += 1 + (k - n);
-        n = k;
-    }
-    n
+// The bytes written in a line, as many as there is room for.
+pub(crate) fn bytes_in<const N: usize>(line: &[u8]) -> ArrayVec<u8, N> {
+    let mut bytes = ArrayVec::new();
+    let _ = bytes.extend(Spelling(line).map(|byte| byte.value()));
+    bytes
 }
 
-// A byte more where the two are one, and there is room.
-fn put_pair(bytes: &mut [u16], n: usize, a: u8, b: u8) -> usize
-    requires { n ≤ length bytes.old }
-    ensures lower_bound { n ≤ result }
-    ensures upper_bound { result ≤ n + 1 }
-    ensures upper_bound_2 { result ≤ length bytes.new }
-{
-    let byte = pair(a, b);
-    if byte == NONE {
-        return n;
-    }
-    if n == bytes.len() {
-        return n;
-    }
-    bytes[n] = byte;
-    n + 1
-}
-
-// The byte that a word is, with the space or the line's end behind it; above 255 where it is none.
-pub(crate) fn byte_of(word: &[u8]) -> u16 {
-    match word.len() {
-        2..=3 => pair(word[0], word[1]),
-        _ => NONE,
+// The byte that a word is, with the space or the line's end behind it.
+pub(crate) fn byte_of(word: &[u8]) -> Option<u8> {
+    let spelled = match word {
+        [a, b] => pair(*a, *b),
+        [a, b, _] => pair(*a, *b),
+        _ => None,
+    };
+    match spelled {
+        Some(Spelled::Byte(byte)) => Some(byte),
+        _ => None,
     }
 }
 
-fn pair(a: u8, b: u8) -> u16 {
+fn pair(a: u8, b: u8) -> Option<Spelled> {
     if a == b'.' && b == b'.' {
-        return ANY;
+        return Some(Spelled::Any);
     }
-    let high = digit(a);
-    let low = digit(b);
-    if high > 15 {
-        return NONE;
-    }
-    if low > 15 {
-        return NONE;
-    }
-    16 * high + low
+    let high = digit(a)?;
+    let low = digit(b)?;
+    Some(Spelled::Byte(16 * high + low))
 }
 
-fn digit(c: u8) -> u16 {
+fn digit(c: u8) -> Option<u8>
+    ensures { IfSome result (λ d. d < 16) }
+{
     match c {
-        b'0'..=b'9' => (c - b'0') as u16,
-        b'A'..=b'F' => (c - b'A') as u16 + 10,
-        _ => NONE,
+        b'0'..=b'9' => Some(c - b'0'),
+        b'A'..=b'F' => Some(c - b'A' + 10),
+        _ => None,
     }
 }

@@ -1,209 +1,95 @@
 // The values of a module by name, as a line gives or expects them.
-use crate::board::{Board, Image};
-use crate::compare::{differed, matched, show_digits, unread};
-use crate::text::{byte_of, is_equal, next_word};
+use crate::board::Image;
+use crate::text::byte_of;
 use image::places;
+use std::fmt;
 
-// The names of an image's bytes, and their places in the same order; those of kind and identity too, so that a change there
-// would be shown.
-const DIMMER_NAMES: [u8; 107] =
-    *b"kind high middle low category subcategory firmware revision flags led house unit delta level ramp on-level ";
+// The name of an image's byte, and its place.
+type Named = (&'static str, usize);
 
-const DIMMER_PLACES: [usize; 16] = [
-    places::KIND,
-    places::HIGH,
-    places::MIDDLE,
-    places::LOW,
-    places::CATEGORY,
-    places::SUBCATEGORY,
-    places::FIRMWARE,
-    places::REVISION,
-    places::FLAGS,
-    places::LED,
-    places::HOUSE,
-    places::UNIT,
-    places::DELTA,
-    places::LEVEL,
-    places::RAMP,
-    places::ON_LEVEL,
+// What every kind has; kind and identity too, so that a change there would be shown.
+const SHARED: [Named; 13] = [
+    ("kind", places::KIND),
+    ("high", places::HIGH),
+    ("middle", places::MIDDLE),
+    ("low", places::LOW),
+    ("category", places::CATEGORY),
+    ("subcategory", places::SUBCATEGORY),
+    ("firmware", places::FIRMWARE),
+    ("revision", places::REVISION),
+    ("flags", places::FLAGS),
+    ("led", places::LED),
+    ("house", places::HOUSE),
+    ("unit", places::UNIT),
+    ("delta", places::DELTA),
 ];
 
-const OUTLET_NAMES: [u8; 98] =
-    *b"kind high middle low category subcategory firmware revision flags led house unit delta top bottom ";
-
-const OUTLET_PLACES: [usize; 15] = [
-    places::KIND,
-    places::HIGH,
-    places::MIDDLE,
-    places::LOW,
-    places::CATEGORY,
-    places::SUBCATEGORY,
-    places::FIRMWARE,
-    places::REVISION,
-    places::FLAGS,
-    places::LED,
-    places::HOUSE,
-    places::UNIT,
-    places::DELTA,
-    places::TOP,
-    places::BOTTOM,
+const DIMMER: [Named; 3] = [
+    ("level", places::LEVEL),
+    ("ramp", places::RAMP),
+    ("on-level", places::ON_LEVEL),
 ];
 
-// Before a message: the values that a line names, and the others as they are.
-pub(crate) fn given(rt: HostRuntime, board: Board, line: &[u8]) -> Board {
-    let mut next = board;
-    let mut now = board.now;
-    let module = now.module;
-    let made = with_named(module, line);
-    if !made.is_read {
-        return unread(rt, board, line);
-    }
-    let image = made.image;
-    now.module = image;
-    next.now = now;
-    next
-}
+const OUTLET: [Named; 2] = [("top", places::TOP), ("bottom", places::BOTTOM)];
 
-// Behind a message: the values that a line names, and the others as they were before it.
-pub(crate) fn expected(rt: HostRuntime, board: Board, line: &[u8]) -> Board {
-    let now = board.now;
-    let came = now.module;
-    let before = board.before;
-    let made = with_named(before, line);
-    if !made.is_read {
-        return unread(rt, board, line);
-    }
-    let wanted = made.image;
-    if is_equal(&came, &wanted) {
-        return matched(board);
-    }
-    let next = differed(rt, board, line);
-    let _ = print!(rt; " | came");
-    show_changes(rt, &before, &came);
-    let _ = println!(rt; "");
-    next
-}
-
-// What a line makes of an image, and whether all of the line was read.
-#[derive(Clone, Copy)]
-struct Made {
-    image: Image,
-    is_read: bool,
-}
-
-fn with_named(image: Image, line: &[u8]) -> Made {
-    let mut image = image;
-    let is_read = set_values(&mut image, line);
-    Made {
-        image: image,
-        is_read: is_read,
-    }
-}
-
-// Behind its first word a line has names and bytes by turns; false where it has anything else.
-fn set_values(image: &mut [u8], line: &[u8]) -> bool {
-    let mut at = next_word(line, 0);
-    while at < line.len() {
-        // a name has a letter at least, so that each turn gets on
-        let value = next_word(line, at + 1);
-        let end = next_word(line, value);
-        if !set_value(image, &line[at..value], &line[value..end]) {
-            return false;
-        }
-        at = end;
-    }
-    true
-}
-
-fn set_value(image: &mut [u8], name: &[u8], value: &[u8]) -> bool {
-    if image.len() == 0 {
-        return false;
-    }
-    let place = place_of(image[places::KIND], name);
-    if place >= image.len() {
-        return false;
-    }
-    let byte = byte_of(value);
-    if byte > 255 {
-        return false;
-    }
-    image[place] = byte as u8;
-    true
-}
-
-// Where the value of a name stands in an image of a kind; behind its end where there is none.
-fn place_of(kind: u8, name: &[u8]) -> usize {
+// The load of a kind.
+fn load_of(kind: u8) -> &'static [Named] {
     match kind {
-        places::OUTLET => {
-            let names = OUTLET_NAMES;
-            let spots = OUTLET_PLACES;
-            place_in(&names, &spots, name)
-        }
-        _ => {
-            let names = DIMMER_NAMES;
-            let spots = DIMMER_PLACES;
-            place_in(&names, &spots, name)
-        }
+        places::OUTLET => &OUTLET,
+        _ => &DIMMER,
     }
 }
 
-fn place_in(names: &[u8], spots: &[usize], name: &[u8]) -> usize {
-    let mut n: usize = 0;
-    let mut at: usize = 0;
-    while at < names.len() {
-        let end = next_word(names, at + 1);
-        if is_equal(&names[at..end], name) {
-            break;
-        }
-        at = end;
-        n += 1;
+// An image with the values that a line names, which has names and bytes by turns behind its first word; none where it has anything else.
+pub(crate) fn with_named(image: &Image, line: &[u8]) -> Option<Image> {
+    let mut image = *image;
+    let mut name = None;
+    for word in line.split_inclusive(|c| *c == b' ').skip(1) {
+        name = match name {
+            None => Some(word),
+            Some(spelled) => {
+                set_value(&mut image, spelled, word)?;
+                None
+            }
+        };
     }
-    place_at(spots, n)
+    match name {
+        None => Some(image),
+        Some(_) => None,
+    }
 }
 
-fn place_at(spots: &[usize], n: usize) -> usize {
-    if n < spots.len() {
-        return spots[n];
-    }
-    places::LENGTH
+fn set_value(image: &mut Image, name: &[u8], value: &[u8]) -> Option<()> {
+    let place = place_of(image[places::KIND], name.strip_suffix(b" ")?)?;
+    *image.get_mut(place)? = byte_of(value)?;
+    Some(())
+}
+
+// Where the value of a name stands in an image of a kind.
+fn place_of(kind: u8, name: &[u8]) -> Option<usize> {
+    let mut named = SHARED.iter().chain(load_of(kind));
+    let (_, place) = named.find(|(known, _)| known.as_bytes() == name)?;
+    Some(*place)
 }
 
 // What is not as it was, in the form of a `then` line.
-fn show_changes(rt: HostRuntime, before: &Image, came: &Image) {
-    match came[places::KIND] {
-        places::OUTLET => {
-            let names = OUTLET_NAMES;
-            let spots = OUTLET_PLACES;
-            show_named(rt, &names, &spots, before, came)
-        }
-        _ => {
-            let names = DIMMER_NAMES;
-            let spots = DIMMER_PLACES;
-            show_named(rt, &names, &spots, before, came)
-        }
-    }
+#[derive(Drop)]
+pub(crate) struct Changes<'a> {
+    pub before: &'a Image,
+    pub came: &'a Image,
 }
 
-fn show_named(rt: HostRuntime, names: &[u8], spots: &[usize], before: &Image, came: &Image) {
-    let mut n: usize = 0;
-    let mut at: usize = 0;
-    while at < names.len() {
-        let end = next_word(names, at + 1);
-        show_change(rt, &names[at..end], before, came, place_at(spots, n));
-        at = end;
-        n += 1;
+impl<'a> fmt::Display for Changes<'a> {
+    fn fmt<W: fmt::Write>(&self, f: &mut fmt::Formatter<W>) -> fmt::Result {
+        let before = self.before;
+        let came = self.came;
+        for (name, place) in SHARED.iter().chain(load_of(came[places::KIND])) {
+            if let (Some(was), Some(is)) = (before.get(*place), came.get(*place))
+                && was != is
+            {
+                write!(f, " {name} {is:02x}")?;
+            }
+        }
+        Ok(())
     }
-}
-
-fn show_change(rt: HostRuntime, name: &[u8], before: &Image, came: &Image, place: usize) {
-    if place >= came.len() {
-        return;
-    }
-    let byte = came[place];
-    if byte == before[place] {
-        return;
-    }
-    let _ = print!(rt; " ");
-    let _ = rt.write_all(name);
-    show_digits(rt, byte);
 }

@@ -115,7 +115,6 @@ each_once =
       wire-hear = λ _. by_value _;
       wire-heard-as = λ _. by_value _;
       wire-is-extended = λ _. by_value _;
-      wire-equals = λ _ _. by_value _;
       links-is-fit = λ _. by_value _;
       links-records = λ _. by_value _;
       links-record-or-blank = λ _ _. by_value _;

@@ -7,7 +7,7 @@ use Rattle.wire.specs.declared.command.Command.{Command}
 use Rattle.wire.specs.declared.command.GroupCommand.{GroupCommand}
 use Rattle.wire.specs.declared.kind.MessageKind.{MessageKind}
 use Rattle.wire.specs.declared.kind.Message.{Message}
-use Rattle.wire.specs.Bytes.{equals, is_extended}
+use Rattle.wire.specs.Bytes.{is_extended}
 use Rattle.wire.specs.Kinds.{heard_as}
 use Rattle.wire.specs.Reading.{heard_in, ReadPromise}
 use Rattle.links.specs.declared.memory.Link.{Link}
@@ -121,7 +121,6 @@ pub record EachOnce : Type 1 where
   pub wire-hear : (s : List ℕ) → Only (λ (r : Message). r ≡ heard_in s)
   pub wire-heard-as : (s : List ℕ) → Only (λ (r : MessageKind). r ≡ heard_as s)
   pub wire-is-extended : (s : List ℕ) → Only (λ (r : Bool). r ≡ is_extended s)
-  pub wire-equals : (a b : Address) → Only (λ (r : Bool). r ≡ equals a b)
   pub links-is-fit : (l : List ℕ) → Only (λ (r : Bool). r ≡ is_fit l)
   pub links-records : (l : List ℕ) → Only (λ (r : ℕ). r ≡ records l)
   pub links-record-or-blank : (l : List ℕ) (k : ℕ) → Only (λ (r : List ℕ). r ≡ record_or_blank l k)

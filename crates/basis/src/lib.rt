@@ -1,4 +1,4 @@
-// What every layer is written with. Its definitions stand in specs/ and their laws in proofs/; it has the loop that lays bytes, and the lesser of two numbers.
+// What every layer is written with. Its definitions stand in specs/ and their laws in proofs/; it lays bytes, and has the lesser of two numbers.
 #![tactic(auto)]
 
 ghost use Rattle.std.specs.Prelude.{◌≡◌, min};
@@ -11,15 +11,11 @@ pub fn lay(room: &mut [u8], bytes: &[u8])
     if room.len() < bytes.len() {
         return;
     }
-    let mut i: usize = 0;
-    while i < bytes.len() {
-        room[i] = bytes[i];
-        i += 1;
-    }
+    room[..bytes.len()].copy_from_slice(bytes);
 }
 
 pub fn min(a: usize, b: usize) -> usize
     ensures { result ≡ min a b }
 {
-    if a < b { a } else { b }
+    a.min(b)
 }

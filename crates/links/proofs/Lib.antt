@@ -1,5 +1,6 @@
 -- Laws of link memory.
 pub mod Standing
+pub mod Chunked
 pub mod Alike
 pub mod Taken
 pub mod Stop

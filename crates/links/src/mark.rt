@@ -21,15 +21,11 @@ fn count_to_mark(links: &[u8], k: usize, n: usize) -> usize
     requires { n ≤ records links.now - k }
     ensures { result ≡ up_to_mark links.now n k }
 {
-    let mut i: usize = 0;
-    loop {
-        if i == n {
-            break i;
-        }
+    for i in 0..n {
         let record = record_at(links, k + i);
-        i += 1;
         if is_end_mark(record) {
-            break i;
+            return i + 1;
         }
     }
+    n
 }

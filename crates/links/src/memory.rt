@@ -54,17 +54,8 @@ pub(crate) fn record_at(links: &[u8], k: usize) -> [u8; 8]
     requires { k < records links.now }
     ensures { result ≡ record_at links.now k }
 {
-    let b = start_of(links, k);
-    [
-        links[b],
-        links[b + 1],
-        links[b + 2],
-        links[b + 3],
-        links[b + 4],
-        links[b + 5],
-        links[b + 6],
-        links[b + 7],
-    ]
+    let (records, _) = links.as_chunks::<8>();
+    records[k]
 }
 
 pub(crate) fn link_of(record: [u8; 8]) -> Link
@@ -73,11 +64,7 @@ pub(crate) fn link_of(record: [u8; 8]) -> Link
     Link {
         flags: record[0],
         group: record[1],
-        address: Address {
-            high: record[2],
-            middle: record[3],
-            low: record[4],
-        },
+        address: Address::from([record[2], record[3], record[4]]),
         d1: record[5],
         d2: record[6],
         d3: record[7],
@@ -108,5 +95,5 @@ pub(crate) fn is_responder(record: [u8; 8]) -> bool
 pub(crate) fn bears(record: [u8; 8], address: Address) -> bool
     ensures { result ≡ bears «record» address }
 {
-    (record[2] == address.high) & (record[3] == address.middle) & (record[4] == address.low)
+    Address::from([record[2], record[3], record[4]]) == address
 }

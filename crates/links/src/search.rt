@@ -48,29 +48,25 @@ fn walk(links: &[u8], wanted: Wanted) -> Searched
     ensures { result ≡ walk_of links.now wanted }
 {
     let n = links.len() / 8;
-    let mut i: usize = 0;
-    loop {
-        if i == n {
-            break Searched {
-                read: n,
-                found: Err(Missing::MemoryEnd),
-            };
-        }
+    for i in 0..n {
         let record = record_at(links, i);
         if is_end_mark(record) {
-            break Searched {
+            return Searched {
                 read: i + 1,
                 found: Err(Missing::EndMark),
             };
         }
         if matches(record, wanted) {
             let link = link_of(record);
-            break Searched {
+            return Searched {
                 read: i + 1,
                 found: Ok(link),
             };
         }
-        i += 1;
+    }
+    Searched {
+        read: n,
+        found: Err(Missing::MemoryEnd),
     }
 }
 

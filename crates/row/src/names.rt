@@ -30,7 +30,7 @@ fn is_same(a: Address, b: Address) -> bool
     if a.low != b.low {
         return false;
     }
-    a.equals(b)
+    a == b
 }
 
 // Two of the first n seats have one address: result 9. Addresses are compared only where their low byte was met before.

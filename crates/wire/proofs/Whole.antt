@@ -35,3 +35,12 @@ module _ (s : List ℕ) (h : is_whole s ≡ true) where
       go : (e : Bool) → length s ≡ choose e 23 9 → length s ≡ 9
       go true p = absurd (short p)
       go false p = p
+
+  -- and whether it has fourteen bytes more
+  pub extended : 14 ≤ length s → length s ≡ 23
+  unfolding choose
+  extended many = go (is_extended s) (eqb-true (length s) _ h)
+    where
+      go : (e : Bool) → length s ≡ choose e 23 9 → length s ≡ 23
+      go true p = p
+      go false p = absurd (omega arith)

@@ -1,6 +1,6 @@
 // A message of any length, read once.
-ghost use Rattle.std.specs.Prelude.{◌≡◌, true, ◌+◌, ◌≤◌, length};
-ghost use Rattle.wire.specs.Bytes.{address_at, named_in, request_of, is_extended, is_whole, data_of};
+ghost use Rattle.std.specs.Prelude.{◌≡◌, true, false, take, MatchOption};
+ghost use Rattle.wire.specs.Bytes.{from_of, to_of, named_in, request_of, is_extended, is_whole, data_of};
 ghost use Rattle.wire.specs.Kinds.{is_unheard, is_astray, is_foreign, kind_of, heard_as, command_of};
 ghost use Rattle.wire.specs.Checksum.{is_sum_wrong};
 ghost use Rattle.wire.specs.Reading.{bare, read_of, heard_in, ReadPromise};
@@ -32,16 +32,16 @@ fn read_as(message: &[u8], to: Address, own: Address) -> Message
     requires { to ≡ named_in message.now }
     ensures { result ≡ read_of message.now own }
 {
-    if !is_whole(message) {
+    let Some(head) = whole_head(message) else {
         return bare(to, Err(Unread::BadLength));
-    }
-    if is_foreign(message, own) {
+    };
+    if is_foreign(head, own) {
         return bare(to, Ok(MessageKind::Foreign));
     }
     if is_sum_wrong(message) {
         return bare(to, Err(Unread::BadSum));
     }
-    let kind = kind_of(message);
+    let kind = kind_of(head);
     let data = data_of(message);
     Message {
         to: to,
@@ -54,13 +54,10 @@ fn read_as(message: &[u8], to: Address, own: Address) -> Message
 pub fn heard_as(message: &[u8]) -> MessageKind
     ensures { result ≡ heard_as message.now }
 {
-    if message.len() < 9 {
-        return MessageKind::Foreign;
+    match message.first_chunk::<9>() {
+        Some(head) if !is_unheard(head) => kind_of(head),
+        _ => MessageKind::Foreign,
     }
-    if is_unheard(message) {
-        return MessageKind::Foreign;
-    }
-    kind_of(message)
 }
 
 // A reading with no data bytes beside it.
@@ -72,6 +69,16 @@ fn bare(to: Address, reading: Result<MessageKind, Unread>) -> Message
         reading: reading,
         data: [0; 14],
     }
+}
+
+// The nine bytes that every message has, of one to which result 1 does not apply.
+fn whole_head(message: &[u8]) -> Option<&[u8; 9]>
+    ensures { MatchOption result (is_whole message.now ≡ false) (λ head. (is_whole message.now ≡ true) × (head.now ≡ take 9 message.now)) }
+{
+    if is_whole(message) {
+        return message.first_chunk();
+    }
+    None
 }
 
 // Result 1 does not apply.
@@ -96,34 +103,31 @@ pub fn is_extended(message: &[u8]) -> bool
 }
 
 // Result 3.
-fn is_foreign(message: &[u8], own: Address) -> bool
-    requires { 9 ≤ length message.now }
-    ensures { result ≡ is_foreign message.now own }
+fn is_foreign(head: &[u8; 9], own: Address) -> bool
+    ensures { result ≡ is_foreign head.now own }
 {
-    is_unheard(message) | is_astray(message, own)
+    is_unheard(head) | is_astray(head, own)
 }
 
 // Of no kind that we hear: another type, or extended and not direct.
-fn is_unheard(message: &[u8]) -> bool
-    requires { 9 ≤ length message.now }
-    ensures { result ≡ is_unheard message.now }
+fn is_unheard(head: &[u8; 9]) -> bool
+    ensures { result ≡ is_unheard head.now }
 {
-    let kind = message[6] / 32;
+    let kind = head[6] / 32;
     let direct = kind == 0;
     let cleanup = kind == 2;
     let broadcast = kind == 6;
-    !(direct | cleanup | broadcast) | (is_extended(message) & !direct)
+    !(direct | cleanup | broadcast) | (is_extended(head) & !direct)
 }
 
 // Not addressed to us.
-fn is_astray(message: &[u8], own: Address) -> bool
-    requires { 9 ≤ length message.now }
-    ensures { result ≡ is_astray message.now own }
+fn is_astray(head: &[u8; 9], own: Address) -> bool
+    ensures { result ≡ is_astray head.now own }
 {
-    let kind = message[6] / 32;
+    let kind = head[6] / 32;
     let direct = kind == 0;
     let cleanup = kind == 2;
-    (direct | cleanup) & !address_at(message, 3).equals(own)
+    (direct | cleanup) & (to_of(head) != own)
 }
 
 // Result 4.
@@ -141,33 +145,26 @@ fn is_sum_wrong(message: &[u8]) -> bool
 }
 
 // The kind of a message that is not foreign.
-fn kind_of(message: &[u8]) -> MessageKind
-    requires { 9 ≤ length message.now }
-    ensures { result ≡ kind_of message.now }
+fn kind_of(head: &[u8; 9]) -> MessageKind
+    ensures { result ≡ kind_of head.now }
 {
-    let request = request_of(message);
+    let request = request_of(head);
     let command1 = request.command1;
-    match message[6] / 32 {
-        0 => MessageKind::Direct(request, command_of(is_extended(message), command1)),
+    match head[6] / 32 {
+        0 => MessageKind::Direct(request, command_of(is_extended(head), command1)),
         2 => MessageKind::Cleanup(request, group_command_of(command1)),
-        _ => MessageKind::Broadcast(
-            address_at(message, 0),
-            address_at(message, 3),
-            group_command_of(command1),
-        ),
+        _ => MessageKind::Broadcast(from_of(head), to_of(head), group_command_of(command1)),
     }
 }
 
-fn request_of(message: &[u8]) -> Request
-    requires { 9 ≤ length message.now }
-    ensures { result ≡ request_of message.now }
+fn request_of(head: &[u8; 9]) -> Request
+    ensures { result ≡ request_of head.now }
 {
-    let from = address_at(message, 0);
     Request {
-        from: from,
-        hops: message[6] % 4,
-        command1: message[7],
-        command2: message[8],
+        from: from_of(head),
+        hops: head[6] % 4,
+        command1: head[7],
+        command2: head[8],
     }
 }
 
@@ -187,49 +184,30 @@ fn data_of(message: &[u8]) -> [u8; 14]
     requires { is_whole message.now ≡ true }
     ensures { result ≡ data_of message.now }
 {
-    if message.len() != 23 {
-        return [0; 14];
+    match message.last_chunk() {
+        Some(data) => *data,
+        None => [0; 14],
     }
-    [
-        message[9],
-        message[10],
-        message[11],
-        message[12],
-        message[13],
-        message[14],
-        message[15],
-        message[16],
-        message[17],
-        message[18],
-        message[19],
-        message[20],
-        message[21],
-        message[22],
-    ]
 }
 
 // Whom a message is for.
 fn named_in(message: &[u8]) -> Address
     ensures { result ≡ named_in message.now }
 {
-    if 9 <= message.len() {
-        return address_at(message, 3);
-    }
-    Address {
-        high: 0,
-        middle: 0,
-        low: 0,
+    match message.first_chunk() {
+        Some(head) => to_of(head),
+        None => Address::default(),
     }
 }
 
-// The address at place `at`.
-fn address_at(message: &[u8], at: usize) -> Address
-    requires { at + 3 ≤ length message.now }
-    ensures { result ≡ address_at message.now at }
+fn from_of(head: &[u8; 9]) -> Address
+    ensures { result ≡ from_of head.now }
 {
-    Address {
-        high: message[at],
-        middle: message[at + 1],
-        low: message[at + 2],
-    }
+    Address::from([head[0], head[1], head[2]])
+}
+
+fn to_of(head: &[u8; 9]) -> Address
+    ensures { result ≡ to_of head.now }
+{
+    Address::from([head[3], head[4], head[5]])
 }

@@ -1,6 +1,6 @@
 // The checksum of an extended message, as the blackboard has it: add up the whole column ("Message bytes").
-ghost use Rattle.std.specs.Prelude.{◌≡◌, length};
-ghost use Rattle.wire.specs.Checksum.{is_sum_right, is_exempt};
+ghost use Rattle.std.specs.Prelude.{◌≡◌, ◌<◌, ◌^◌, length};
+ghost use Rattle.wire.specs.Checksum.{sum_of, is_sum_right, is_exempt};
 
 // What is added is the whole column, Command 1 through Data 14. The sender chose Data 14 so that it comes to a multiple of 256: where
 // something is left over, a byte was altered on its way, or the sender added wrongly.
@@ -8,11 +8,14 @@ pub(crate) fn is_sum_right(message: &[u8]) -> bool
     requires { length message.now ≡ 23 }
     ensures { result ≡ is_sum_right message.now }
 {
-    let mut sum: usize = 0;
-    for i in 7..23 {
-        sum += message[i] as usize;
-    }
-    sum % 256 == 0
+    sum_of(&message[7..]) % 256 == 0
+}
+
+fn sum_of(column: &[u8]) -> usize
+    requires { length column.now < 2 ^ 32 }
+    ensures { result ≡ sum_of column.now }
+{
+    column.iter().map(|&byte| usize::from(byte)).sum()
 }
 
 // Get Properties and Get Database, which the captures send with 00 for a checksum.

@@ -24,14 +24,14 @@ loop-i-preserved c =
     let s : g.k + (i + 1) ≡ g.k + i + 1 = omega arith in
     (omega arith, rw (p, s) (sym (later (mark_at l) (g.n - i) (g.k + i) (omega arith) e) ∙ c.loop-i.invariant.1))
 
-pub returns-then-i-n : goal.returns-then-i-n
-returns-then-i-n c =
+pub returns : goal.returns
+returns c =
     let g = c.args in
     let i = c.loop-i.i in
     let l = g.links.now in
     let p : g.n - i ≡ 0 = omega arith in
     let m : g.k + i ≡ first_from (mark_at l) g.n g.k = sym (none (mark_at l) (g.k + i)) ∙ rw p at c.loop-i.invariant.1 in
-    stops l g.n g.k i (g.k + i) (sym m) (omega arith)
+    stops l g.n g.k g.n (g.k + i) (sym m) (omega arith)
 
 pub returns-then-is_end_mark : goal.returns-then-is_end_mark
 returns-then-is_end_mark c =

@@ -8,6 +8,3 @@ use Rattle.links.proofs.search.walk.Given as goal
 -- What is left to search from record i on stops where the whole search stops.
 abbrev pub invariant-loop-i : goal.invariant-loop-i
 invariant-loop-i l = (l.i ≤ l.n) × (first_from (settles_at l.links l.wanted) (l.n - l.i) l.i ≡ stop_of l.links l.wanted)
-
-abbrev pub decreases-loop-i : goal.decreases-loop-i
-decreases-loop-i l = l.n - l.i

@@ -14,6 +14,6 @@ returns-in-2 c = rw (c.group_command_of.ensures, c.in-2.is, c.request_of-request
 pub returns-in_default : goal.returns-in_default
 unfolding kind_of choose
 returns-in_default c =
-    let type = type_of c.args.message.now in
+    let type = type_of c.args.head.now in
     let other = c.in_default.in_default-own.rest in
-    rw (ne_eqb type 0 other.0.1, ne_eqb type 2 other.1, c.group_command_of-in_default.ensures, c.address_at-in_default.ensures, c.address_at.ensures, c.request_of-request.ensures)
+    rw (ne_eqb type 0 other.0.1, ne_eqb type 2 other.1, c.group_command_of-in_default.ensures, c.to_of.ensures, c.from_of.ensures, c.request_of-request.ensures)

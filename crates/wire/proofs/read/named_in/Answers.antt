@@ -1,11 +1,15 @@
+use mathlib.Core.Path.{◌∙◌}
 use borrow.Author.Tests.{lt-ltb, le-ltb}
 use Rattle.basis.specs.Choice.{choose}
+use Rattle.wire.proofs.Head.{same_to, nobody}
 use Rattle.wire.proofs.read.named_in.Goals as goal
 
-pub returns-then-message-ge9 : goal.returns-then-message-ge9
+pub returns-in-Some : goal.returns-in-Some
 unfolding choose
-returns-then-message-ge9 c = rw (le-ltb _ 9 c.if-message-ge9.true) c.address_at.ensures
+returns-in-Some c =
+    let first = c.in-Some.ensures.cases in
+    rw (le-ltb _ 9 first.enough) (c.to_of.ensures ∙ same_to c.args.message.now _ first.same)
 
-pub returns : goal.returns
+pub returns-in-None : goal.returns-in-None
 unfolding choose
-returns c = rw (lt-ltb _ 9 c.if-message-ge9.false)
+returns-in-None c = rw (lt-ltb _ 9 c.in-None.ensures.cases) (nobody c.default.result c.default.ensures)

@@ -6,14 +6,14 @@ ghost use Rattle.dimmer.specs.Load.{raised, lowered, high_then_f, percent_of, le
 pub(crate) fn raised(level: u8) -> u8
     ensures { result ≡ raised level }
 {
-    if level <= 247 { level + 8 } else { 255 }
+    level.saturating_add(8)
 }
 
 // Eight less, at least 00.
 pub(crate) fn lowered(level: u8) -> u8
     ensures { result ≡ lowered level }
 {
-    if 8 <= level { level - 8 } else { 0 }
+    level.saturating_sub(8)
 }
 
 // The high digit followed by the digit F.

@@ -8,6 +8,7 @@ use load::state::Lamp;
 use load::table::Kind;
 use wire::request::Request;
 
+// The kind whose load is a lamp.
 pub struct Dimmer;
 
 impl Kind for Dimmer {

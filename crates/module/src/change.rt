@@ -25,19 +25,16 @@ impl Module {
     {
         match change {
             Change::Nothing => self,
-            Change::Flags(flags) => Module {
-                flags: flags,
-                ..self
-            },
-            Change::Led(led) => Module { led: led, ..self },
+            Change::Flags(flags) => Module { flags, ..self },
+            Change::Led(led) => Module { led, ..self },
             Change::X10(house, unit) => Module {
-                house: house,
-                unit: unit,
+                house,
+                unit,
                 ..self
             },
-            Change::Load(load) => Module { load: load, ..self },
+            Change::Load(load) => Module { load, ..self },
             Change::NextDelta => Module {
-                delta: ((self.delta as u32 + 1) % 256) as u8,
+                delta: self.delta.wrapping_add(1),
                 ..self
             },
         }

@@ -36,6 +36,7 @@ pub const FRESH_UNIT: u8 = 0x20;
 
 pub const FRESH_DELTA: u8 = 0x00;
 
+// Two constructors: one generic in the load would not say more plainly which kind it makes, and both are `fresh` of a load.
 impl Module {
     // A fresh dimmer of an identity.
     pub fn fresh_dimmer(identity: Identity) -> Module
@@ -57,12 +58,12 @@ fn fresh(identity: Identity, load: Load) -> Module
     ensures { result ≡ fresh_with load identity }
 {
     Module {
-        identity: identity,
+        identity,
         flags: FRESH_FLAGS,
         led: FRESH_LED,
         house: FRESH_HOUSE,
         unit: FRESH_UNIT,
         delta: FRESH_DELTA,
-        load: load,
+        load,
     }
 }

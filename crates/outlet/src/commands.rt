@@ -87,5 +87,5 @@ fn both_of(sockets: Sockets) -> u8
 fn bit_of(is_on: bool) -> u8
     ensures { (result ≡ bit_of is_on) × (result ≤ 1) }
 {
-    if is_on { 1 } else { 0 }
+    u8::from(is_on)
 }

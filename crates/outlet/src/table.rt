@@ -8,6 +8,7 @@ use load::state::Sockets;
 use load::table::Kind;
 use wire::request::Request;
 
+// The kind whose load are two sockets.
 pub struct Outlet;
 
 impl Kind for Outlet {

@@ -1,5 +1,6 @@
 -- Each arm is a row of the table, and the last is what no row has.
 use mathlib.Core.Path.{sym, ◌∙◌}
+use Rattle.std.proofs.Common.{rules}
 use Rattle.basis.specs.Choice.{choose}
 use Rattle.basis.proofs.Table.{missed}
 use Rattle.dimmer.specs.Load.{load_rows, load_entry}
@@ -51,4 +52,4 @@ returns-in-57 c = rw (c.percent_entry.ensures, c.in-57.is)
 
 pub returns-in_default : goal.returns-in_default
 unfolding load_entry choose
-returns-in_default c = let g = c.args in c.stays.ensures ∙ sym (missed _ _ (load_rows g.lamp g.r.command2) c.in_default.in_default-own.rest)
+returns-in_default c = let g = c.args in c.stays.ensures ∙ sym (missed g.r.command1 _ (load_rows g.lamp g.r.command2) (search rules))

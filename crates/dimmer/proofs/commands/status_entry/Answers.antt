@@ -1,4 +1,5 @@
 use mathlib.Core.Path.{sym, ◌∙◌}
+use Rattle.std.proofs.Common.{rules}
 use Rattle.basis.specs.Choice.{choose}
 use Rattle.basis.proofs.Table.{missed}
 use Rattle.dimmer.specs.Load.{statuses, status_entry}
@@ -14,4 +15,4 @@ returns-in-6 c = rw (c.stays-in-6.ensures, c.percent_of.ensures, c.in-6.is)
 
 pub returns-in_default : goal.returns-in_default
 unfolding status_entry choose
-returns-in_default c = c.stays-in_default.ensures ∙ sym (missed _ _ (statuses c.args.lamp) c.in_default.in_default-own.rest)
+returns-in_default c = c.stays-in_default.ensures ∙ sym (missed c.args.command2 _ (statuses c.args.lamp) (search rules))

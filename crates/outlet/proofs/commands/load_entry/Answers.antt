@@ -1,4 +1,5 @@
 use mathlib.Core.Path.{sym, ◌∙◌}
+use Rattle.std.proofs.Common.{rules}
 use Rattle.basis.specs.Choice.{choose}
 use Rattle.basis.proofs.Table.{missed}
 use Rattle.outlet.specs.Load.{load_rows, load_entry}
@@ -18,4 +19,4 @@ returns-in-25 c = rw (c.status_entry.ensures, c.in-25.is)
 
 pub returns-in_default : goal.returns-in_default
 unfolding load_entry choose
-returns-in_default c = let g = c.args in c.stays.ensures ∙ sym (missed _ _ (load_rows g.sockets g.r.command2) c.in_default.in_default-own.rest)
+returns-in_default c = let g = c.args in c.stays.ensures ∙ sym (missed g.r.command1 _ (load_rows g.sockets g.r.command2) (search rules))

@@ -1,4 +1,5 @@
 use mathlib.Core.Path.{sym, ◌∙◌}
+use Rattle.std.proofs.Common.{rules}
 use Rattle.basis.specs.Choice.{choose}
 use Rattle.basis.proofs.Table.{missed}
 use Rattle.outlet.specs.Load.{statuses, status_entry}
@@ -14,4 +15,4 @@ returns-in-1 c = rw (c.stays-in-1.ensures, c.both_of.ensures, c.in-1.is)
 
 pub returns-in_default : goal.returns-in_default
 unfolding status_entry choose
-returns-in_default c = c.stays-in_default.ensures ∙ sym (missed _ _ (statuses c.args.sockets) c.in_default.in_default-own.rest)
+returns-in_default c = c.stays-in_default.ensures ∙ sym (missed c.args.command2 _ (statuses c.args.sockets) (search rules))

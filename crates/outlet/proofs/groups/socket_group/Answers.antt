@@ -1,4 +1,5 @@
 use mathlib.Core.Path.{sym}
+use Rattle.std.proofs.Common.{rules}
 use Rattle.basis.specs.Choice.{choose}
 use Rattle.basis.proofs.Table.{missed}
 use Rattle.outlet.specs.Groups.{socket_rows, socket_group}
@@ -14,4 +15,4 @@ returns-in-2 c = rw c.in-2.is
 
 pub returns-in_default : goal.returns-in_default
 unfolding socket_group choose
-returns-in_default c = let g = c.args in sym (missed _ _ (socket_rows g.sockets g.is_on) c.in_default.in_default-own.rest)
+returns-in_default c = let g = c.args in sym (missed g.which _ (socket_rows g.sockets g.is_on) (search rules))

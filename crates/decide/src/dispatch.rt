@@ -6,7 +6,7 @@ use links::memory::Link;
 use load::entry::Entry;
 use load::state::Load;
 use module::change::Change;
-use module::deed::{Deed, GroupDeed, LoadEntry, acked, grouped_by, showing};
+use module::deed::{Ack, Deed, GroupDeed, LoadEntry, grouped_by};
 use module::state::Module;
 use shared::properties::shown_deed;
 use shared::table::shared_deed;
@@ -28,8 +28,8 @@ pub(crate) fn deed_of(
     let next = own.load;
     let entry = own.entry;
     match entry {
-        Entry::Done => acked(Change::Load(next)),
-        Entry::Shows(x) => showing(x),
+        Entry::Done => Deed::acked(Change::Load(next)),
+        Entry::Shows(x) => Deed::answered(Ack::AfterDelta(x)),
         Entry::Shown(p) => shown_deed(m, data[0], p),
         Entry::Shared => shared_deed(m, r, data, records, command),
         Entry::Unlisted => Deed::Unlisted,

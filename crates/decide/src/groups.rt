@@ -7,8 +7,8 @@ use links::search::Found;
 use load::state::Load;
 use module::change::Change;
 use module::deed::GroupDeed;
-use module::plan::{Plan, done, headed, refused, unlinked, unlisted};
-use reply::due::{Due, ReplyType};
+use module::plan::Plan;
+use reply::due::{Due, Head, ReplyType};
 use results::Outcome;
 use wire::address::Address;
 use wire::command::GroupCommand;
@@ -40,7 +40,7 @@ fn broadcast_by(deed: GroupDeed) -> Plan
     ensures { result ≡ broadcast_by deed }
 {
     match deed {
-        GroupDeed::Done(load) => done(Change::Load(load), Due::Nothing),
+        GroupDeed::Done(load) => Plan::done(Change::Load(load), Due::Nothing),
         GroupDeed::Unlisted => unconcerned(),
     }
 }
@@ -49,17 +49,17 @@ fn broadcast_by(deed: GroupDeed) -> Plan
 fn unconcerned() -> Plan
     ensures { result ≡ unconcerned }
 {
-    refused(Outcome::Unconcerned, Due::Nothing)
+    Plan::refused(Outcome::Unconcerned, Due::Nothing)
 }
 
 pub(crate) fn cleanup_plan(load: Load, r: Request, command: GroupCommand, found: Found) -> Plan
     ensures { result ≡ cleanup_plan load r command found }
 {
     match found {
-        Found::NoSearch => unlinked(ReplyType::CleanupNak, r),
+        Found::NoSearch => Plan::unlinked(ReplyType::CleanupNak, r),
         Found::Match(link) => cleanup_by(r, group_deed_by(load, command, link)),
-        Found::EndMark => unlinked(ReplyType::CleanupNak, r),
-        Found::MemoryEnd => unlinked(ReplyType::CleanupNak, r),
+        Found::EndMark => Plan::unlinked(ReplyType::CleanupNak, r),
+        Found::MemoryEnd => Plan::unlinked(ReplyType::CleanupNak, r),
     }
 }
 
@@ -67,10 +67,10 @@ fn cleanup_by(r: Request, deed: GroupDeed) -> Plan
     ensures { result ≡ cleanup_by r deed }
 {
     match deed {
-        GroupDeed::Done(load) => done(
+        GroupDeed::Done(load) => Plan::done(
             Change::Load(load),
-            Due::Alone(headed(ReplyType::CleanupAck, r, r.command1, r.command2)),
+            Due::Alone(Head::answering(ReplyType::CleanupAck, r, r.command1, r.command2)),
         ),
-        GroupDeed::Unlisted => unlisted(ReplyType::CleanupNak, r),
+        GroupDeed::Unlisted => Plan::unlisted(ReplyType::CleanupNak, r),
     }
 }

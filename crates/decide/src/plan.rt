@@ -5,7 +5,7 @@ ghost use Rattle.decide.specs.Decide.{is_open, needs_no_link, direct_wanted, sen
 use crate::dispatch::deed_of;
 use crate::groups::{broadcast_plan, cleanup_plan, is_call};
 use links::search::{Found, Wanted, is_found};
-use module::plan::{Plan, deed_plan, refused, unlinked};
+use module::plan::Plan;
 use module::state::Module;
 use reply::due::{Due, ReplyType};
 use results::Outcome;
@@ -90,7 +90,7 @@ pub(crate) fn plan_of(
         MessageKind::Direct(r, command) => direct_plan(m, r, data, records, command, found),
         MessageKind::Cleanup(r, command) => cleanup_plan(load, r, command, found),
         MessageKind::Broadcast(_, _, command) => broadcast_plan(load, command, found),
-        MessageKind::Foreign => refused(Outcome::Foreign, Due::Nothing),
+        MessageKind::Foreign => Plan::refused(Outcome::Foreign, Due::Nothing),
     }
 }
 
@@ -107,7 +107,7 @@ fn direct_plan(
     // One call, as the search has: a compiler then keeps the plan in registers.
     if needs_no_link(command) | is_found(found) {
         let deed = deed_of(m, r, data, records, command);
-        return deed_plan(m, r, deed);
+        return deed.plan(m, r);
     }
-    unlinked(ReplyType::Nak, r)
+    Plan::unlinked(ReplyType::Nak, r)
 }

@@ -37,7 +37,7 @@ impl Module {
             },
             Change::Load(load) => Module { load: load, ..self },
             Change::NextDelta => Module {
-                delta: ((self.delta as u32 + 1) % 256) as u8,
+                delta: self.delta.wrapping_add(1),
                 ..self
             },
         }

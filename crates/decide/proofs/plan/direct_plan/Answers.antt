@@ -4,7 +4,7 @@ use Rattle.decide.proofs.plan.direct_plan.Goals as goal
 
 pub returns-then-needs_no_link-is_found : goal.returns-then-needs_no_link-is_found
 unfolding direct_plan choose
-returns-then-needs_no_link-is_found c = rw (c.deed_plan.ensures, c.deed_of-deed.ensures, rw (c.is_found.ensures, c.needs_no_link.ensures) at c.if-needs_no_link-is_found.true)
+returns-then-needs_no_link-is_found c = rw (c.plan.ensures, c.deed_of-deed.ensures, rw (c.is_found.ensures, c.needs_no_link.ensures) at c.if-needs_no_link-is_found.true)
 
 pub returns : goal.returns
 unfolding direct_plan choose

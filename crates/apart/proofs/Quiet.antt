@@ -25,7 +25,8 @@ use Rattle.links.proofs.Written.{length_kept}
 use Rattle.reply.specs.declared.due.Due.{Due}
 use Rattle.load.specs.declared.state.Load.{Load}
 use Rattle.module.specs.declared.state.Module.{Module}
-use Rattle.module.specs.declared.plan.Writing.{Writing}
+use Rattle.std.specs.Prelude.{Option, Some, None}
+use Rattle.module.specs.declared.deed.Write.{Write}
 use Rattle.decide.specs.declared.rule.Ruling.{Ruling}
 use Rattle.decide.specs.Dispatch.{group_deed_by}
 use Rattle.decide.specs.Groups.{broadcast_by, broadcast_plan}
@@ -34,9 +35,9 @@ use Rattle.decide.specs.Ruling.{heard_by, read_ruling, ruling_by, ruling_of}
 use Rattle.device.specs.Step.{Step, links_after, served_of, step_of}
 use Rattle.row.proofs.Readings.{not_direct, not-cleanup}
 
-writing-length : (l d : List ℕ) (writing : Writing) → length (links_after l d writing) ≡ length l
-writing-length l d Writing.Nothing = refl
-writing-length l d (Writing.Record k n) = length_kept l k (take n (drop 5 d))
+writing-length : (l d : List ℕ) (writing : Option Write) → length (links_after l d writing) ≡ length l
+writing-length l d None = refl
+writing-length l d (Some write) = length_kept l write.index (take write.count (drop 5 d))
 
 pub same_bytes : (m : Module) (l s room : List ℕ) → length (step_of m l s room).links ≡ length l
 same_bytes m l s room = either (λ (t : Step). length t.links ≡ length l) _ {y = served_of m l (heard_by m s).data room _ (ruling_of m l s)} refl (writing-length l (heard_by m s).data (ruling_of m l s).plan.writing)

@@ -1,5 +1,5 @@
 -- One answer only: two results that a public function's promise allows are equal ("What the promises have to say").
-use Rattle.std.specs.Prelude.{ℕ, ◌-◌, min, ◌≡◌, Bool, List, [], ◌∷◌, drop, Option}
+use Rattle.std.specs.Prelude.{ℕ, ◌-◌, min, ◌≡◌, Bool, List, [], ◌∷◌, drop, Option, Result}
 use Rattle.basis.specs.Laid.{laid, laid_if_fits}
 use Rattle.wire.specs.declared.address.Address.{Address}
 use Rattle.wire.specs.declared.request.Request.{Request}
@@ -21,7 +21,8 @@ use Rattle.links.specs.Write.{written_if_there}
 use Rattle.reply.specs.declared.due.ReplyType.{ReplyType}
 use Rattle.reply.specs.declared.due.Head.{Head}
 use Rattle.reply.specs.declared.due.Due.{Due}
-use Rattle.reply.specs.declared.send.Sent.{Sent}
+use Rattle.reply.specs.declared.send.TooShort.{TooShort}
+use Rattle.reply.specs.Message.{headed}
 use Rattle.reply.specs.Reply.{reply_of}
 use Rattle.reply.specs.Sending.{Sending}
 use Rattle.results.specs.declared.Outcome.{Outcome}
@@ -36,6 +37,8 @@ use Rattle.load.specs.Answer.{becomes, stays}
 use Rattle.load.specs.Table.{Own, entry_of}
 use Rattle.module.specs.declared.state.Module.{Module}
 use Rattle.module.specs.declared.change.Change.{Change}
+use Rattle.module.specs.declared.deed.Ack.{Ack}
+use Rattle.module.specs.declared.deed.Write.{Write}
 use Rattle.module.specs.declared.deed.Deed.{Deed}
 use Rattle.module.specs.declared.plan.Plan.{Plan}
 use Rattle.module.specs.Module.{fresh_dimmer, fresh_outlet}
@@ -85,7 +88,7 @@ Only {A} P = (x y : A) → P x → P y → x ≡ y
 
 -- what sending gives: its answer, and the room afterwards
 pub record Delivered : Type 0 where
-  pub answer : Sent
+  pub answer : Result ℕ TooShort
   pub room : List ℕ
 
 -- what a call gives: its answer, link memory and the room afterwards
@@ -130,6 +133,7 @@ pub record EachOnce : Type 1 where
   pub links-name-of : (k : ℕ) → Only (λ (r : ℕ). r ≡ name_of k)
   pub links-place-of : (n address : ℕ) → Only (λ (r : Option ℕ). r ≡ place_of n address)
   pub links-write : (l : List ℕ) (k : ℕ) (bytes : List ℕ) → Only (λ (after : List ℕ). after ≡ written_if_there l k bytes)
+  pub reply-answering : (type : ReplyType) (q : Request) (one two : ℕ) → Only (λ (r : Head). r ≡ headed type q one two)
   pub reply-send : (own : Address) (l : List ℕ) (due : Due) (room : List ℕ)
       → Only (λ (d : Delivered). Sending (reply_of own l due) room d.answer d.room)
   pub results-number : (o : Outcome) → Only (λ (r : ℕ). r ≡ number_of o)
@@ -143,16 +147,14 @@ pub record EachOnce : Type 1 where
   pub module-fresh-outlet : (i : Identity) → Only (λ (r : Module). r ≡ fresh_outlet i)
   pub module-apply : (m : Module) (change : Change) → Only (λ (r : Module). r ≡ apply change m)
   pub module-acked : (change : Change) → Only (λ (r : Deed). r ≡ Deed.acked change)
-  pub module-telling : (x : ℕ) → Only (λ (r : Deed). r ≡ Deed.telling x)
-  pub module-showing : (x : ℕ) → Only (λ (r : Deed). r ≡ Deed.showing x)
+  pub module-answered : (ack : Ack) → Only (λ (r : Deed). r ≡ Deed.answered ack)
   pub module-limited : (a b x : ℕ) (deed : Deed) → Only (λ (r : Deed). r ≡ Deed.limited a b x deed)
-  pub module-headed : (type : ReplyType) (q : Request) (one two : ℕ) → Only (λ (r : Head). r ≡ Plan.headed type q one two)
   pub module-done : (change : Change) (due : Due) → Only (λ (r : Plan). r ≡ Plan.done change due)
-  pub module-wrote : (k n : ℕ) (due : Due) → Only (λ (r : Plan). r ≡ Plan.wrote k n due)
+  pub module-wrote : (write : Write) (due : Due) → Only (λ (r : Plan). r ≡ Plan.wrote write due)
   pub module-refused : (o : Outcome) (due : Due) → Only (λ (r : Plan). r ≡ Plan.refused o due)
   pub module-unlinked : (type : ReplyType) (q : Request) → Only (λ (r : Plan). r ≡ Plan.unlinked type q)
   pub module-unlisted : (type : ReplyType) (q : Request) → Only (λ (r : Plan). r ≡ Plan.unlisted type q)
-  pub module-deed-plan : (m : Module) (q : Request) (deed : Deed) → Only (λ (r : Plan). r ≡ Plan.deed_plan m q deed)
+  pub module-plan : (m : Module) (q : Request) (deed : Deed) → Only (λ (r : Plan). r ≡ Plan.deed_plan m q deed)
   pub shared-shown-deed : (m : Module) (data1 : ℕ) (p : Properties) → Only (λ (r : Deed). r ≡ shown_deed m data1 p)
   pub shared-shared-deed : (m : Module) (q : Request) (d : List ℕ) (n : ℕ) (command : Command) → Only (λ (r : Deed). r ≡ shared_deed m q d n command)
   pub dimmer-group-of : (lamp : Lamp) (command : GroupCommand) (link : Link) → Only (λ (r : Option Lamp). r ≡ dimmer-groups.group_of lamp command link)

@@ -22,14 +22,14 @@ use Rattle.links.specs.Record.{is_fit, records}
 use Rattle.links.specs.Search.{search_of}
 use Rattle.links.proofs.Following.{by_found}
 use Rattle.reply.specs.declared.due.ReplyType.{ReplyType}
-use Rattle.reply.specs.Message.{type_bits}
+use Rattle.reply.specs.Message.{type_bits, headed}
 use Rattle.reply.proofs.Messages.{Opens, Begins}
 use Rattle.load.specs.declared.state.Load.{Load}
 use Rattle.module.specs.declared.state.Module.{Module}
 use Rattle.module.specs.declared.deed.Ack.{Ack}
 use Rattle.module.specs.declared.deed.Deed.{Deed}
 use Rattle.module.specs.declared.plan.Plan.{Plan}
-use Rattle.module.specs.Plan.{headed, due_of, deed_plan}
+use Rattle.module.specs.Plan.{due_of, deed_plan}
 use Rattle.decide.specs.declared.rule.Ruling.{Ruling}
 use Rattle.decide.specs.Dispatch.{deed_of, group_deed_by}
 use Rattle.decide.specs.Groups.{broadcast_by, cleanup_by}
@@ -49,11 +49,11 @@ module _ (m : Module) (r : Request) where
   ack_begins (Ack.AfterDelta command2) = opened ReplyType.Ack r _ _ refl
   ack_begins Ack.WithId = opened ReplyType.Ack r _ _ refl
   ack_begins (Ack.WithProperties d) = opened ReplyType.Ack r _ _ refl
-  ack_begins (Ack.WithRecords data1 k count) = opened ReplyType.Ack r _ _ refl
+  ack_begins (Ack.WithRecords asked) = opened ReplyType.Ack r _ _ refl
 
   deed_begins : (deed : Deed) → Begun r.hops (deed_plan m r deed)
   deed_begins (Deed.Done change ack) = ack_begins ack
-  deed_begins (Deed.Written k n) = opened ReplyType.Ack r _ _ refl
+  deed_begins (Deed.Written write) = opened ReplyType.Ack r _ _ refl
   deed_begins Deed.Unlisted = opened ReplyType.Nak r _ _ refl
 
 cleanup_begins : (r : Request) (next : Option Load) → Begun r.hops (cleanup_by r next)

@@ -12,7 +12,8 @@ use Rattle.results.specs.declared.Outcome.{Outcome}
 use Rattle.load.specs.declared.state.Load.{Load}
 use Rattle.module.specs.declared.change.Change.{Change}
 use Rattle.module.specs.declared.plan.Plan.{Plan}
-use Rattle.module.specs.Plan.{headed, done, refused, unlinked, unlisted}
+use Rattle.reply.specs.Message.{headed}
+use Rattle.module.specs.Plan.{done, refused, unlinked, unlisted}
 use Rattle.decide.specs.Dispatch.{group_deed_by}
 
 -- a broadcast calls a group: To = 00 00 group, Command 1 in 11 to 14

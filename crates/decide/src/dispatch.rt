@@ -8,7 +8,7 @@ use load::entry::{Entry, LoadEntry};
 use load::state::Load;
 use load::table::entry_of;
 use module::change::Change;
-use module::deed::{Deed, acked, showing};
+use module::deed::{Deed, Ack};
 use module::state::Module;
 use outlet::table::Outlet;
 use shared::properties::shown_deed;
@@ -28,8 +28,8 @@ pub(crate) fn deed_of(
 {
     let own = entry_by(m.load, r, data, command);
     match own.entry {
-        Entry::Done => acked(Change::Load(own.load)),
-        Entry::Shows(x) => showing(x),
+        Entry::Done => Deed::acked(Change::Load(own.load)),
+        Entry::Shows(x) => Deed::answered(Ack::AfterDelta(x)),
         Entry::Shown(p) => shown_deed(m, data[0], p),
         Entry::Shared => shared_deed(m, r, data, records, command),
         Entry::Unlisted => Deed::Unlisted,

@@ -7,8 +7,8 @@ use links::memory::Link;
 use links::search::Missing;
 use load::state::Load;
 use module::change::Change;
-use module::plan::{Plan, done, headed, refused, unlinked, unlisted};
-use reply::due::{Due, ReplyType};
+use reply::due::{Due, ReplyType, Head};
+use module::plan::Plan;
 use results::Outcome;
 use wire::address::Address;
 use wire::command::GroupCommand;
@@ -39,7 +39,7 @@ fn broadcast_by(next: Option<Load>) -> Plan
     ensures { result ≡ broadcast_by next }
 {
     match next {
-        Some(load) => done(Change::Load(load), Due::Nothing),
+        Some(load) => Plan::done(Change::Load(load), Due::Nothing),
         None => unconcerned(),
     }
 }
@@ -48,7 +48,7 @@ fn broadcast_by(next: Option<Load>) -> Plan
 fn unconcerned() -> Plan
     ensures { result ≡ unconcerned }
 {
-    refused(Outcome::Unconcerned, Due::Nothing)
+    Plan::refused(Outcome::Unconcerned, Due::Nothing)
 }
 
 pub(crate) fn cleanup_plan(load: Load, r: Request, command: GroupCommand, found: Result<Link, Missing>) -> Plan
@@ -56,7 +56,7 @@ pub(crate) fn cleanup_plan(load: Load, r: Request, command: GroupCommand, found:
 {
     match found {
         Ok(link) => cleanup_by(r, group_deed_by(load, command, link)),
-        Err(_) => unlinked(ReplyType::CleanupNak, r),
+        Err(_) => Plan::unlinked(ReplyType::CleanupNak, r),
     }
 }
 
@@ -64,10 +64,10 @@ fn cleanup_by(r: Request, next: Option<Load>) -> Plan
     ensures { result ≡ cleanup_by r next }
 {
     match next {
-        Some(load) => done(
+        Some(load) => Plan::done(
             Change::Load(load),
-            Due::Alone(headed(ReplyType::CleanupAck, r, r.command1, r.command2)),
+            Due::Alone(Head::answering(ReplyType::CleanupAck, r, r.command1, r.command2)),
         ),
-        None => unlisted(ReplyType::CleanupNak, r),
+        None => Plan::unlisted(ReplyType::CleanupNak, r),
     }
 }

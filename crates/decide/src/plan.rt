@@ -6,7 +6,7 @@ use crate::dispatch::deed_of;
 use crate::groups::{broadcast_plan, cleanup_plan, is_call};
 use links::memory::Link;
 use links::search::{Missing, Wanted};
-use module::plan::{Plan, deed_plan, refused, unlinked};
+use module::plan::Plan;
 use module::state::Module;
 use reply::due::{Due, ReplyType};
 use results::Outcome;
@@ -91,7 +91,7 @@ pub(crate) fn plan_of(
         MessageKind::Direct(r, command) => direct_plan(m, r, data, records, command, found),
         MessageKind::Cleanup(r, command) => cleanup_plan(load, r, command, found),
         MessageKind::Broadcast(_, _, command) => broadcast_plan(load, command, found),
-        MessageKind::Foreign => refused(Outcome::Foreign, Due::Nothing),
+        MessageKind::Foreign => Plan::refused(Outcome::Foreign, Due::Nothing),
     }
 }
 
@@ -108,7 +108,7 @@ fn direct_plan(
     // One call, as the search has: a compiler then keeps the plan in registers.
     if needs_no_link(command) | found.is_ok() {
         let deed = deed_of(m, r, data, records, command);
-        return deed_plan(m, r, deed);
+        return deed.plan(m, r);
     }
-    unlinked(ReplyType::Nak, r)
+    Plan::unlinked(ReplyType::Nak, r)
 }

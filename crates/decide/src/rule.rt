@@ -5,7 +5,7 @@ ghost use Rattle.decide.specs.Ruling.{silence, kind_ruling, read_ruling, ruling_
 use crate::plan::{plan_of, wanted_of};
 use links::memory::{is_fit, records};
 use links::search::search;
-use module::plan::{Plan, refused};
+use module::plan::Plan;
 use module::state::Module;
 use reply::due::Due;
 use results::Outcome;
@@ -57,7 +57,7 @@ fn kind_ruling(m: Module, links: &[u8], kind: MessageKind, data: [u8; 14]) -> Ru
 fn silence(outcome: Outcome) -> Ruling
     ensures { result ≡ silence outcome }
 {
-    let plan = refused(outcome, Due::Nothing);
+    let plan = Plan::refused(outcome, Due::Nothing);
     Ruling {
         plan: plan,
         read: 0,

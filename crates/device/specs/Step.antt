@@ -1,16 +1,16 @@
 -- One message to one module ("Result numbers"): refusal 5 comes last, measured against the reply that is due.
-use Rattle.std.specs.Prelude.{ℕ, ◌≡◌, List, [], ltb, length, take, drop}
+use Rattle.std.specs.Prelude.{ℕ, ◌≡◌, List, [], Option, Some, None, Result, Ok, Err, ltb, length, take, drop}
 use Rattle.basis.specs.Choice.{choose}
 use Rattle.basis.specs.Laid.{laid}
 use Rattle.links.specs.Write.{written_if_there}
 use Rattle.wire.specs.declared.kind.Message.{Message}
 use Rattle.reply.specs.declared.due.Due.{Due}
-use Rattle.reply.specs.declared.send.Sent.{Sent}
+use Rattle.reply.specs.declared.send.TooShort.{TooShort}
 use Rattle.reply.specs.Reply.{reply_of}
 use Rattle.results.specs.declared.Outcome.{Outcome}
 use Rattle.results.specs.Number.{number_of}
 use Rattle.module.specs.declared.state.Module.{Module}
-use Rattle.module.specs.declared.plan.Writing.{Writing}
+use Rattle.module.specs.declared.deed.Write.{Write}
 use Rattle.module.specs.declared.plan.Plan.{Plan}
 use Rattle.module.specs.Change.{apply}
 use Rattle.module.specs.Plan.{refused}
@@ -28,9 +28,9 @@ pub record Step : Type 0 where
   pub room : List ℕ
 
 -- link memory afterwards: the bytes of a write are those from Data 6 on
-abbrev pub links_after : List ℕ → List ℕ → Writing → List ℕ
-links_after l d Writing.Nothing = l
-links_after l d (Writing.Record k n) = written_if_there l k (take n (drop 5 d))
+abbrev pub links_after : List ℕ → List ℕ → Option Write → List ℕ
+links_after l d None = l
+links_after l d (Some write) = written_if_there l write.index (take write.count (drop 5 d))
 
 -- result 5: nothing is sent and nothing altered; the count of the search is kept
 abbrev pub short_of : Module → List ℕ → List ℕ → Ruling → Step
@@ -60,14 +60,10 @@ step_by m l heard room = finish_of m l heard.«data» room (ruling_by m l heard)
 abbrev pub step_of : Module → List ℕ → List ℕ → List ℕ → Step
 step_of m l s room = step_by m l (heard_by m s) room
 
--- by what sending the reply came to: the plan that stands, and the length
-abbrev pub if_sent : Sent → Plan → Plan
-if_sent (Sent.Whole n) decided = decided
-if_sent Sent.Short decided = refused Outcome.NoRoom Due.Nothing
-
-abbrev pub length_of : Sent → ℕ
-length_of (Sent.Whole n) = n
-length_of Sent.Short = 0
+-- the plan that stands, by what sending the reply came to
+abbrev pub if_sent : Result ℕ TooShort → Plan → Plan
+if_sent (Ok n) decided = decided
+if_sent (Err short) decided = refused Outcome.NoRoom Due.Nothing
 
 -- what a call promises: its answer, the link memory and the room afterwards
 pub record Comes (t : Step) (answer : Answer) (links after : List ℕ) : Type 0 where

@@ -1,13 +1,13 @@
 // One message to one module. Nothing is written before the whole reply is known to fit.
 ghost use Rattle.std.specs.Prelude.{◌≡◌};
-ghost use Rattle.device.specs.Step.{links_after, if_sent, length_of, step_by, Comes, StepPromise};
+ghost use Rattle.device.specs.Step.{links_after, if_sent, step_by, Comes, StepPromise};
 
 use decide::rule::ruling_by;
 use links::write::write;
-use module::plan::{Plan, Writing, refused};
+use module::plan::Plan;
 use module::state::Module;
 use reply::due::Due;
-use reply::send::{Sent, send};
+use reply::send::{TooShort, send};
 use results::Outcome;
 use wire::kind::Message;
 use wire::read::read;
@@ -45,28 +45,19 @@ pub fn serve(m: Module, links: &mut [u8], heard: Message, room: &mut [u8]) -> An
     let change = plan.change;
     Answer {
         outcome: outcome,
-        length: length_of(sent),
+        length: sent.unwrap_or(0),
         read: ruling.read,
         next: m.apply(change),
     }
 }
 
 // Where the reply did not fit, what was decided comes to result 5, and nothing is altered.
-fn if_sent(sent: Sent, decided: Plan) -> Plan
+fn if_sent(sent: Result<usize, TooShort>, decided: Plan) -> Plan
     ensures { result ≡ if_sent sent decided }
 {
     match sent {
-        Sent::Whole(_) => decided,
-        Sent::Short => refused(Outcome::NoRoom, Due::Nothing),
-    }
-}
-
-fn length_of(sent: Sent) -> usize
-    ensures { result ≡ length_of sent }
-{
-    match sent {
-        Sent::Whole(n) => n,
-        Sent::Short => 0,
+        Ok(_) => decided,
+        Err(_) => Plan::refused(Outcome::NoRoom, Due::Nothing),
     }
 }
 
@@ -74,14 +65,10 @@ fn length_of(sent: Sent) -> usize
 fn write_planned(links: &mut [u8], data: [u8; 14], plan: Plan)
     ensures { links.new ≡ links_after links.old «data» plan.writing }
 {
-    let writing = plan.writing;
-    match writing {
-        Writing::Nothing => {}
-        Writing::Record(k, n) => {
-            if n <= 8 {
-                let end = 5 + n;
-                write(links, k, &data[5..end]);
-            }
+    if let Some(planned) = plan.writing {
+        let n = planned.count;
+        if n <= 8 {
+            write(links, planned.index, &data[5..5 + n]);
         }
     }
 }

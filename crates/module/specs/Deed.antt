@@ -10,13 +10,17 @@ use Rattle.module.specs.declared.deed.Deed.{Deed}
 abbrev pub acked : Change → Deed
 acked change = Deed.Done change Ack.Repeated
 
--- nothing changes, and Command 2 of the ACK is a value
-abbrev pub telling : ℕ → Deed
-telling command2 = Deed.Done Change.Nothing (Ack.Telling command2)
+-- nothing changes, and the ACK says this
+abbrev pub answered : Ack → Deed
+answered ack = Deed.Done Change.Nothing ack
 
--- nothing changes, and the ACK has the delta for its Command 1, and a value for its Command 2
+-- Command 2 of the ACK is a value
+abbrev pub telling : ℕ → Deed
+telling command2 = answered (Ack.Telling command2)
+
+-- the ACK has the delta for its Command 1, and a value for its Command 2
 abbrev pub showing : ℕ → Deed
-showing command2 = Deed.Done Change.Nothing (Ack.AfterDelta command2)
+showing command2 = answered (Ack.AfterDelta command2)
 
 -- listed where the number is one of a to b
 unfoldable pub limited : ℕ → ℕ → ℕ → Deed → Deed

@@ -1,34 +1,31 @@
 -- What comes of a message, before the reply room is looked at ("Result numbers").
-use Rattle.std.specs.Prelude.{ℕ}
+use Rattle.std.specs.Prelude.{Some, None}
 use Rattle.wire.specs.declared.address.Address.{Address}
 use Rattle.wire.specs.declared.request.Request.{Request}
 use Rattle.reply.specs.declared.due.ReplyType.{ReplyType}
 use Rattle.reply.specs.declared.due.Head.{Head}
 use Rattle.reply.specs.declared.due.Due.{Due}
+use Rattle.reply.specs.Message.{headed}
 use Rattle.results.specs.declared.Outcome.{Outcome}
 use Rattle.module.specs.declared.state.Identity.{Identity}
 use Rattle.module.specs.declared.state.Module.{Module}
 use Rattle.module.specs.declared.change.Change.{Change}
 use Rattle.module.specs.declared.deed.Ack.{Ack}
+use Rattle.module.specs.declared.deed.Write.{Write}
 use Rattle.module.specs.declared.deed.Deed.{Deed}
-use Rattle.module.specs.declared.plan.Writing.{Writing}
 use Rattle.module.specs.declared.plan.Plan.{Plan}
-
--- a standard reply to a request
-abbrev pub headed : ReplyType → Request → ℕ → ℕ → Head
-headed type r command1 command2 = record { reply_type = type; to = r.from; hops = r.hops; command1 = command1; command2 = command2 }
 
 -- carried out
 abbrev pub done : Change → Due → Plan
-done change due = record { outcome = Outcome.Done; change = change; writing = Writing.Nothing; due = due }
+done change due = record { outcome = Outcome.Done; change = change; writing = None; due = due }
 
--- carried out: n bytes go over the first ones of record k, and the delta goes up
-abbrev pub wrote : ℕ → ℕ → Due → Plan
-wrote k n due = record { outcome = Outcome.Done; change = Change.NextDelta; writing = Writing.Record k n; due = due }
+-- carried out: bytes go over the first ones of a record, and the delta goes up
+abbrev pub wrote : Write → Due → Plan
+wrote write due = record { outcome = Outcome.Done; change = Change.NextDelta; writing = Some write; due = due }
 
 -- refused: nothing changes, and nothing is written
 abbrev pub refused : Outcome → Due → Plan
-refused outcome due = record { outcome = outcome; change = Change.Nothing; writing = Writing.Nothing; due = due }
+refused outcome due = record { outcome = outcome; change = Change.Nothing; writing = None; due = due }
 
 -- result 6: a NAK that repeats Command 1, with Command 2 = FF
 abbrev pub unlinked : ReplyType → Request → Plan
@@ -52,10 +49,10 @@ due_of m r (Ack.Telling command2) = Due.Alone (headed ReplyType.Ack r r.command1
 due_of m r (Ack.AfterDelta command2) = Due.Alone (headed ReplyType.Ack r m.delta command2)
 due_of m r Ack.WithId = Due.WithId (ack_to r) (id_of m.identity) m.identity.revision
 due_of m r (Ack.WithProperties d) = Due.WithProperties (ack_to r) d
-due_of m r (Ack.WithRecords data1 k count) = Due.WithRecords (ack_to r) data1 k count
+due_of m r (Ack.WithRecords asked) = Due.WithRecords (ack_to r) asked
 
 -- what a direct command comes to, as a plan
 abbrev pub deed_plan : Module → Request → Deed → Plan
 deed_plan m r (Deed.Done change ack) = done change (due_of m r ack)
-deed_plan m r (Deed.Written k n) = wrote k n (Due.Alone (ack_to r))
+deed_plan m r (Deed.Written write) = wrote write (Due.Alone (ack_to r))
 deed_plan m r Deed.Unlisted = unlisted ReplyType.Nak r

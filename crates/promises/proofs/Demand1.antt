@@ -53,7 +53,7 @@ pub data Fair (type : ReplyType) (r : Request) (p : Plan) : Type 0 where
 
 deed_fair : (m : Module) (r : Request) (deed : Deed) → Fair ReplyType.Nak r (deed_plan m r deed)
 deed_fair m r (Deed.Done change ack) = done refl
-deed_fair m r (Deed.Written k n) = done refl
+deed_fair m r (Deed.Written write) = done refl
 deed_fair m r Deed.Unlisted = unknown refl
 
 cleanup_fair : (r : Request) (next : Option Load) → Fair ReplyType.CleanupNak r (cleanup_by r next)

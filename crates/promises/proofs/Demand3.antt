@@ -73,8 +73,8 @@ module _ (m : Module) (l : List ℕ) (r : Request) where
   not_ff (Deed.Done change (Ack.AfterDelta x)) q = ack_or_nak (ap flags_of q)
   not_ff (Deed.Done change Ack.WithId) q = ack_or_nak (ap flags_of q)
   not_ff (Deed.Done change (Ack.WithProperties d)) q = ack_or_nak (ap flags_of q)
-  not_ff (Deed.Done change (Ack.WithRecords data1 k count)) q = ack_or_nak (ap flags_of q)
-  not_ff (Deed.Written k n) q = ack_or_nak (ap flags_of q)
+  not_ff (Deed.Done change (Ack.WithRecords asked)) q = ack_or_nak (ap flags_of q)
+  not_ff (Deed.Written write) q = ack_or_nak (ap flags_of q)
   not_ff Deed.Unlisted q = let z : ◌≡◌ {A = ℕ} 0xfb 0xff = ap command2_of q in omega arith
 
 module _ (m : Module) (l s : List ℕ) (f : is_fit l ≡ true) (w : well_formed s m.identity.address ≡ true) (d : is_direct s ≡ true) where

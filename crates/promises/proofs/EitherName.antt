@@ -30,7 +30,8 @@ use Rattle.load.specs.declared.state.Load.{Load}
 use Rattle.module.specs.declared.state.Module.{Module}
 use Rattle.module.specs.declared.deed.Deed.{Deed}
 use Rattle.module.specs.declared.plan.Plan.{Plan}
-use Rattle.module.specs.declared.plan.Writing.{Writing}
+use Rattle.std.specs.Prelude.{Option}
+use Rattle.module.specs.declared.deed.Write.{Write}
 use Rattle.module.specs.Deed.{limited}
 use Rattle.module.specs.Plan.{deed_plan}
 use Rattle.module.proofs.Limited.{by_limits}
@@ -120,7 +121,7 @@ module _ (m : Module) (l room h r : List ℕ) (x y : ℕ) where
       beside ◌≡◌ _ (beside ◌≡◌ _ (get_alike place ∙ ap (get_deed e) same) (beside ◌≡◌ _ (set_alike place ∙ ap (set_deed e) same) refl)) refl
 
   -- and what it writes stands before Data 14
-  abbrev Writes : Writing → Type 0
+  abbrev Writes : Option Write → Type 0
   Writes writing = links_after l d writing ≡ links_after l e writing
 
   got : (place : Option ℕ) → Writes (deed_plan m q (get_deed e place)).writing
@@ -130,7 +131,7 @@ module _ (m : Module) (l room h r : List ℕ) (x y : ℕ) where
   set : (place : Option ℕ) → Writes (deed_plan m q (set_deed e place)).writing
   unfolding limited choose
   set (Some k) =
-      by_limits (λ (deed : Deed). Writes (deed_plan m q deed).writing) 1 8 (data_at s 5) (Deed.Written k (data_at s 5))
+      by_limits (λ (deed : Deed). Writes (deed_plan m q deed).writing) 1 8 (data_at s 5) (Deed.Written (record { index = k; count = data_at s 5 }))
       (λ a b. rw (le-leb 1 (data_at s 5) a, le-leb (data_at s 5) 8 b) (ap (written_if_there l k) (early b)))
       refl
     where

@@ -58,10 +58,10 @@ longest own l Due.Nothing h = omega arith
 longest own l (Due.Alone x) h = omega arith
 longest own l (Due.WithId x id revision) h = omega arith
 longest own l (Due.WithProperties x d) h = omega arith
-longest own l (Due.WithRecords x data1 k count) h =
+longest own l (Due.WithRecords x a) h =
     let f = (both (within 1 2048 (length l)) _ h).0 in
     let g = leb-true (length l) 2048 (both (leb 1 (length l)) (leb (length l) 2048) f).1 in
-    omega (arith, long own x data1 l k count, enough l k count)
+    omega (arith, long own x a.data1 l a.first a.most, enough l a.first a.most)
 
 pub always_enough : AlwaysEnough
 unfolding ruling_by

@@ -31,7 +31,7 @@ use Rattle.load.specs.declared.entry.Entry.{Entry}
 use Rattle.load.specs.declared.state.Load.{Load}
 use Rattle.module.specs.declared.state.Module.{Module}
 use Rattle.module.specs.declared.change.Change.{Change}
-use Rattle.module.specs.declared.plan.Writing.{Writing}
+use Rattle.std.specs.Prelude.{None}
 use Rattle.module.specs.declared.plan.Plan.{Plan}
 use Rattle.module.specs.Plan.{id_of, ack_to, deed_plan}
 use Rattle.decide.specs.declared.rule.Ruling.{Ruling}
@@ -86,7 +86,7 @@ module _ (i : Identity) (s : List ℕ) where
 
 -- nothing is changed, and nothing written
 abbrev pub Idle : Plan → Type 0
-Idle p = (p.change ≡ Change.Nothing) × (p.writing ≡ Writing.Nothing)
+Idle p = (p.change ≡ Change.Nothing) × (p.writing ≡ None)
 
 -- a plan that changes nothing, writes nothing and sends these bytes
 pub record Quiet (m : Module) (l : List ℕ) (p : Plan) (bytes : List ℕ) : Type 0 where

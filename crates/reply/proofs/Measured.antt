@@ -11,7 +11,7 @@ use Rattle.basis.proofs.Laid.{fits}
 use Rattle.links.specs.Record.{records}
 use Rattle.wire.specs.declared.address.Address.{Address}
 use Rattle.reply.specs.declared.due.Head.{Head}
-use Rattle.reply.specs.declared.send.Sent.{Sent}
+use Rattle.std.specs.Prelude.{Ok, Err}
 use Rattle.reply.specs.Message.{head_of}
 use Rattle.links.specs.Mark.{up_to_mark}
 use Rattle.reply.specs.Records.{count_sent, sent_records}
@@ -30,12 +30,12 @@ unfolding up_to_mark
 enough l k count = omega arith
 
 module _ (reply room : List ℕ) where
-  pub short : length room < length reply → Sending reply room Sent.Short room
+  pub short : length room < length reply → Sending reply room (Err (record {})) room
   unfolding sent_of laid_if_fits choose
   short h =
       let t = lt-ltb (length room) (length reply) h in
       record { answers = rw t; leaves = rw t }
 
-  pub whole : (n : ℕ) (after : List ℕ) → length reply ≤ length room → n ≡ length reply → after ≡ laid reply room → Sending reply room (Sent.Whole n) after
+  pub whole : (n : ℕ) (after : List ℕ) → length reply ≤ length room → n ≡ length reply → after ≡ laid reply room → Sending reply room (Ok n) after
   unfolding sent_of choose
   whole n after h e p = record { answers = rw (le-ltb (length room) (length reply) h, e); leaves = p ∙ sym (fits room reply h) }

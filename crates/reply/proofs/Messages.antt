@@ -27,7 +27,7 @@ messages_of own l Due.Nothing = []
 messages_of own l (Due.Alone h) = head_of own h ∷ []
 messages_of own l (Due.WithId h id revision) = head_of own h ∷ standard own id ReplyType.IdBroadcast h.hops 0x01 revision ∷ []
 messages_of own l (Due.WithProperties h d) = head_of own h ∷ extended own h.to h.hops 0x2e (data_bytes d) ∷ []
-messages_of own l (Due.WithRecords h data1 k count) = head_of own h ∷ record_messages own h.to h.hops data1 l (count_sent l k count) k
+messages_of own l (Due.WithRecords h a) = head_of own h ∷ record_messages own h.to h.hops a.data1 l (count_sent l a.first a.most) a.first
 
 records_joined : (own to : Address) (hops data1 : ℕ) (l : List ℕ) (n k : ℕ) → records_from own to hops data1 l n k ≡ flatten (record_messages own to hops data1 l n k)
 unfolding records_from flatten
@@ -40,7 +40,7 @@ joined own l Due.Nothing = refl
 joined own l (Due.Alone h) = refl
 joined own l (Due.WithId h id revision) = refl
 joined own l (Due.WithProperties h d) = refl
-joined own l (Due.WithRecords h data1 k count) = ap (λ (z : List ℕ). head_of own h ++ z) (records_joined own h.to h.hops data1 l (count_sent l k count) k)
+joined own l (Due.WithRecords h a) = ap (λ (z : List ℕ). head_of own h ++ z) (records_joined own h.to h.hops a.data1 l (count_sent l a.first a.most) a.first)
 
 -- the message that it begins with is a standard one, flags bit 4 is clear, and has these hops
 pub record Opens (hops : ℕ) (h : Head) : Type 0 where
@@ -52,7 +52,7 @@ Begins hops Due.Nothing = Unit {0}
 Begins hops (Due.Alone h) = Opens hops h
 Begins hops (Due.WithId h id revision) = Opens hops h
 Begins hops (Due.WithProperties h d) = Opens hops h
-Begins hops (Due.WithRecords h data1 k count) = Opens hops h
+Begins hops (Due.WithRecords h a) = Opens hops h
 
 -- hops are added below the type bits and the extended bit
 sixteens : (type : ReplyType) → type_bits type ≡ 16 * (type_bits type / 16)
@@ -129,6 +129,6 @@ each_sound own l hops due e = go due e
     go (Due.Alone h) o = behind h [] o (none h.hops)
     go (Due.WithId h id revision) o = behind h (_ ∷ []) o (alone h.hops _ (standard_sound own id ReplyType.IdBroadcast h.hops 0x01 revision refl))
     go (Due.WithProperties h d) o = behind h (_ ∷ []) o (alone h.hops _ (extended_sound own h.to h.hops 0x2e (data_bytes d) refl))
-    go (Due.WithRecords h data1 k count) o =
-        let n : ℕ = count_sent l k count in
-        behind h (record_messages own h.to h.hops data1 l n k) o (records_sound own h.to h.hops data1 l n k)
+    go (Due.WithRecords h a) o =
+        let n : ℕ = count_sent l a.first a.most in
+        behind h (record_messages own h.to h.hops a.data1 l n a.first) o (records_sound own h.to h.hops a.data1 l n a.first)

@@ -1,9 +1,10 @@
 -- One message of a reply ("Message bytes").
 use Rattle.std.specs.Prelude.{ℕ, ◌+◌, ◌*◌, ◌%◌, List, [], ◌∷◌, ◌++◌}
+use Rattle.basis.specs.Spell.{spell}
 use Rattle.wire.specs.declared.address.Address.{Address}
+use Rattle.wire.specs.declared.request.Request.{Request}
 use Rattle.reply.specs.declared.due.ReplyType.{ReplyType}
 use Rattle.reply.specs.declared.due.Head.{Head}
-use Rattle.reply.specs.declared.due.DataBytes.{DataBytes}
 
 -- the type bits and the extended bit
 abbrev pub type_bits : ReplyType → ℕ
@@ -30,7 +31,14 @@ extended from to hops command1 bytes = standard from to ReplyType.Data hops comm
 abbrev pub head_of : Address → Head → List ℕ
 head_of own h = standard own h.to h.reply_type h.hops h.command1 h.command2
 
--- data bytes by name, as they are sent
-abbrev pub data_bytes : DataBytes → List ℕ
-data_bytes d =
-    d.d1 ∷ d.d2 ∷ d.d3 ∷ d.d4 ∷ d.d5 ∷ d.d6 ∷ d.d7 ∷ d.d8 ∷ d.d9 ∷ d.d10 ∷ d.d11 ∷ d.d12 ∷ d.d13 ∷ d.d14 ∷ []
+-- a standard reply to a request
+abbrev pub headed : ReplyType → Request → ℕ → ℕ → Head
+headed type r command1 command2 = record { reply_type = type; to = r.from; hops = r.hops; command1 = command1; command2 = command2 }
+
+-- the head of extended data to the same controller
+abbrev pub data_head : ℕ → Head → Head
+data_head command1 h = record { reply_type = ReplyType.Data; to = h.to; hops = h.hops; command1 = command1; command2 = 0x00 }
+
+-- the fourteen data bytes, as they are sent
+abbrev pub data_bytes : List ℕ → List ℕ
+data_bytes d = spell 14 0 d

@@ -8,10 +8,11 @@ use Rattle.links.specs.Name.{name_of}
 use Rattle.reply.specs.Message.{extended}
 
 -- one record: Data 1 as sent, 01, address, 00, the 8 bytes, 00
+abbrev pub record_data : ℕ → List ℕ → ℕ → List ℕ
+record_data data1 l k = data1 ∷ 0x01 ∷ name_of k / 256 ∷ name_of k % 256 ∷ 0x00 ∷ (record_at l k ++ (0x00 ∷ []))
+
 abbrev pub record_message : Address → Address → ℕ → ℕ → List ℕ → ℕ → List ℕ
-record_message own to hops data1 l k =
-    extended own to hops 0x2f
-    (data1 ∷ 0x01 ∷ name_of k / 256 ∷ name_of k % 256 ∷ 0x00 ∷ (record_at l k ++ (0x00 ∷ [])))
+record_message own to hops data1 l k = extended own to hops 0x2f (record_data data1 l k)
 
 -- n records upward from k
 unfoldable pub records_from : Address → Address → ℕ → ℕ → List ℕ → ℕ → ℕ → List ℕ

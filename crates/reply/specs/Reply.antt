@@ -12,4 +12,4 @@ reply_of own l Due.Nothing = []
 reply_of own l (Due.Alone h) = head_of own h
 reply_of own l (Due.WithId h id revision) = head_of own h ++ standard own id ReplyType.IdBroadcast h.hops 0x01 revision
 reply_of own l (Due.WithProperties h d) = head_of own h ++ extended own h.to h.hops 0x2e (data_bytes d)
-reply_of own l (Due.WithRecords h data1 k count) = head_of own h ++ sent_records own h.to h.hops data1 l k count
+reply_of own l (Due.WithRecords h a) = head_of own h ++ sent_records own h.to h.hops a.data1 l a.first a.most

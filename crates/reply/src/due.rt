@@ -1,5 +1,9 @@
 // What reply is due for a message, by value ("Message bytes", "Direct commands").
+ghost use Rattle.std.specs.Prelude.{◌≡◌};
+ghost use Rattle.reply.specs.Message.{headed};
+
 use wire::address::Address;
+use wire::request::Request;
 
 // What type of message a reply is; its flags byte tells it on the wire.
 #[derive(Clone, Copy)]
@@ -23,23 +27,29 @@ pub struct Head {
     pub command2: u8,
 }
 
-// Data 1 to Data 14 by name: what is due is an enum, and with the older kit no enum held an array.
+impl Head {
+    // A standard reply to a request.
+    pub fn answering(reply_type: ReplyType, r: Request, command1: u8, command2: u8) -> Head
+        ensures { result ≡ headed reply_type r command1 command2 }
+    {
+        Head {
+            reply_type: reply_type,
+            to: r.from,
+            hops: r.hops,
+            command1: command1,
+            command2: command2,
+        }
+    }
+}
+
+// The records that a Get Database asks for.
 #[derive(Clone, Copy)]
-pub struct DataBytes {
-    pub d1: u8,
-    pub d2: u8,
-    pub d3: u8,
-    pub d4: u8,
-    pub d5: u8,
-    pub d6: u8,
-    pub d7: u8,
-    pub d8: u8,
-    pub d9: u8,
-    pub d10: u8,
-    pub d11: u8,
-    pub d12: u8,
-    pub d13: u8,
-    pub d14: u8,
+pub struct Asked {
+    // As it was sent.
+    pub data1: u8,
+    pub first: usize,
+    // How many at most, 0 for no limit.
+    pub most: usize,
 }
 
 // The whole reply that is due.
@@ -50,8 +60,8 @@ pub enum Due {
     Alone(Head),
     // Then a broadcast of category, subcategory and firmware, and of the hardware revision.
     WithId(Head, Address, u8),
-    // Then an extended message of Get Properties.
-    WithProperties(Head, DataBytes),
-    // Then records: Data 1 as it was sent, the first record, and how many at most, 0 for no limit.
-    WithRecords(Head, u8, usize, usize),
+    // Then an extended message of Get Properties, with these data bytes.
+    WithProperties(Head, [u8; 14]),
+    // Then records.
+    WithRecords(Head, Asked),
 }

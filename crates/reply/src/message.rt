@@ -1,111 +1,72 @@
-// The writer of one message, which gets the remaining part of the reply room ("Message bytes").
-ghost use Rattle.std.specs.Prelude.{◌≡◌, ◌≤◌};
+// One message of a reply ("Message bytes").
+ghost use Rattle.std.specs.Prelude.{◌≡◌, ◌≤◌, ◌++◌, length};
 ghost use Rattle.basis.specs.Laid.{laid_if_fits};
-ghost use Rattle.reply.specs.Message.{type_bits, reply_flags, standard, data_bytes, extended, head_of};
+ghost use Rattle.reply.specs.Message.{type_bits, reply_flags, data_head, head_of};
 
-use crate::due::{DataBytes, Head, ReplyType};
+use crate::due::{Head, ReplyType};
 use wire::address::Address;
 
-// Type and extended bit stay; the request's largest hop count is what is left of hops and what is largest (request 4).
-pub(crate) fn reply_flags(reply_type: ReplyType, hops: u8) -> u8
-    ensures { result ≡ reply_flags reply_type hops }
-{
-    type_bits(reply_type) + 5 * (hops % 4)
-}
+impl ReplyType {
+    // Type and extended bit stay; the request's largest hop count is what is left of hops and what is largest (request 4).
+    pub(crate) fn flags(self, hops: u8) -> u8
+        ensures { result ≡ reply_flags self hops }
+    {
+        self.bits() + 5 * (hops % 4)
+    }
 
-fn type_bits(reply_type: ReplyType) -> u8
-    ensures { (result ≡ type_bits reply_type) × (result ≤ 0xe0) }
-{
-    match reply_type {
-        ReplyType::Ack => 0x20,
-        ReplyType::Nak => 0xa0,
-        ReplyType::CleanupAck => 0x60,
-        ReplyType::CleanupNak => 0xe0,
-        ReplyType::IdBroadcast => 0x80,
-        ReplyType::Data => 0x10,
+    fn bits(self) -> u8
+        ensures { (result ≡ type_bits self) × (result ≤ 0xe0) }
+    {
+        match self {
+            ReplyType::Ack => 0x20,
+            ReplyType::Nak => 0xa0,
+            ReplyType::CleanupAck => 0x60,
+            ReplyType::CleanupNak => 0xe0,
+            ReplyType::IdBroadcast => 0x80,
+            ReplyType::Data => 0x10,
+        }
     }
 }
 
-// A standard message, nine bytes. Where they do not fit, nothing is written; so it is with every message here.
-pub(crate) fn put_standard(
-    room: &mut [u8],
-    from: Address,
-    to: Address,
-    reply_type: ReplyType,
-    hops: u8,
-    command1: u8,
-    command2: u8,
-)
-    ensures { room.new ≡ laid_if_fits room.old (standard from to reply_type hops command1 command2) }
-{
-    let flags = reply_flags(reply_type, hops);
-    let bytes = [
-        from.high,
-        from.middle,
-        from.low,
-        to.high,
-        to.middle,
-        to.low,
-        flags,
-        command1,
-        command2,
-    ];
-    basis::lay(room, &bytes);
+impl Head {
+    // The message, nine bytes, from the module at this address.
+    pub(crate) fn message(self, from: Address) -> [u8; 9]
+        ensures { result ≡ head_of from self }
+    {
+        let to = self.to;
+        let reply_type = self.reply_type;
+        let flags = reply_type.flags(self.hops);
+        [
+            from.high,
+            from.middle,
+            from.low,
+            to.high,
+            to.middle,
+            to.low,
+            flags,
+            self.command1,
+            self.command2,
+        ]
+    }
+
+    // The head of extended data to the same controller: Command 2 is 00.
+    pub(crate) fn of_data(self, command1: u8) -> Head
+        ensures { result ≡ data_head command1 self }
+    {
+        Head {
+            reply_type: ReplyType::Data,
+            command1: command1,
+            command2: 0x00,
+            ..self
+        }
+    }
 }
 
-// The standard message that a reply begins with.
-pub(crate) fn put_head(room: &mut [u8], own: Address, head: Head)
-    ensures { room.new ≡ laid_if_fits room.old (head_of own head) }
+// An extended message, twenty-three bytes: its head, and fourteen bytes of data directly behind it.
+pub(crate) fn put_extended(room: &mut [u8], head: &[u8; 9], data: &[u8; 14])
+    requires { 23 ≤ length room.old }
+    ensures { room.new ≡ laid_if_fits room.old (head.now ++ «data».now) }
 {
-    let reply_type = head.reply_type;
-    let to = head.to;
-    put_standard(
-        room,
-        own,
-        to,
-        reply_type,
-        head.hops,
-        head.command1,
-        head.command2,
-    );
-}
-
-// An extended message, twenty-three bytes: Command 1, 00, and fourteen bytes of data.
-pub(crate) fn put_extended(
-    room: &mut [u8],
-    from: Address,
-    to: Address,
-    hops: u8,
-    command1: u8,
-    d: DataBytes,
-)
-    ensures { room.new ≡ laid_if_fits room.old (extended from to hops command1 (data_bytes d)) }
-{
-    let flags = reply_flags(ReplyType::Data, hops);
-    let bytes = [
-        from.high,
-        from.middle,
-        from.low,
-        to.high,
-        to.middle,
-        to.low,
-        flags,
-        command1,
-        0x00,
-        d.d1,
-        d.d2,
-        d.d3,
-        d.d4,
-        d.d5,
-        d.d6,
-        d.d7,
-        d.d8,
-        d.d9,
-        d.d10,
-        d.d11,
-        d.d12,
-        d.d13,
-        d.d14,
-    ];
-    basis::lay(room, &bytes);
+    basis::lay(room, head);
+    basis::lay(&mut room[9..], data);
 }

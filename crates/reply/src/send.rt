@@ -6,101 +6,100 @@ ghost use Rattle.reply.specs.Records.{sent_records};
 ghost use Rattle.reply.specs.Reply.{reply_of};
 ghost use Rattle.reply.specs.Sending.{Sending};
 
-use crate::due::{DataBytes, Due, Head, ReplyType};
-use crate::message::{put_extended, put_head, put_standard};
-use crate::records::{count_sent, put_records};
+use crate::due::{Asked, Due, Head, ReplyType};
+use crate::message::put_extended;
+use crate::records::put_records;
 use wire::address::Address;
 
-// The reply's length where it was sent whole; a room that is too short for it is left as it was.
+// The room is shorter than the whole reply; it was left as it was.
 #[derive(Clone, Copy)]
-pub enum Sent {
-    Whole(usize),
-    Short,
-}
+pub struct TooShort;
 
-// What the module at address `own` sends.
-pub fn send(room: &mut [u8], own: Address, links: &[u8], due: Due) -> Sent
+// What the module at address `own` sends, and its length.
+pub fn send(room: &mut [u8], own: Address, links: &[u8], due: Due) -> Result<usize, TooShort>
     ensures { Sending (reply_of own links.now due) room.old result room.new }
 {
     match due {
-        Due::Nothing => Sent::Whole(0),
+        Due::Nothing => Ok(0),
         Due::Alone(head) => send_head(room, own, head),
         Due::WithId(head, id, revision) => send_id(room, own, head, id, revision),
-        Due::WithProperties(head, d) => send_properties(room, own, head, d),
-        Due::WithRecords(head, data1, k, count) => {
-            send_records(room, own, head, data1, links, k, count)
-        }
+        Due::WithProperties(head, data) => send_properties(room, own, head, data),
+        Due::WithRecords(head, asked) => send_records(room, own, head, links, asked),
     }
 }
 
-fn send_head(room: &mut [u8], own: Address, head: Head) -> Sent
+fn send_head(room: &mut [u8], own: Address, head: Head) -> Result<usize, TooShort>
     ensures { Sending (head_of own head) room.old result room.new }
 {
     if room.len() < 9 {
-        return Sent::Short;
+        return Err(TooShort);
     }
-    put_head(room, own, head);
-    Sent::Whole(9)
+    basis::lay(room, &head.message(own));
+    Ok(9)
 }
 
-fn send_id(room: &mut [u8], own: Address, head: Head, id: Address, revision: u8) -> Sent
+fn send_id(
+    room: &mut [u8],
+    own: Address,
+    head: Head,
+    id: Address,
+    revision: u8,
+) -> Result<usize, TooShort>
     ensures { Sending (head_of own head ++ standard own id ReplyType.IdBroadcast head.hops 0x01 revision)
         room.old result room.new }
 {
     if room.len() < 18 {
-        return Sent::Short;
+        return Err(TooShort);
     }
-    let hops = head.hops;
-    put_head(room, own, head);
-    put_standard(
-        &mut room[9..],
-        own,
-        id,
-        ReplyType::IdBroadcast,
-        hops,
-        0x01,
-        revision,
-    );
-    Sent::Whole(18)
+    let broadcast = Head {
+        reply_type: ReplyType::IdBroadcast,
+        to: id,
+        command1: 0x01,
+        command2: revision,
+        ..head
+    };
+    basis::lay(room, &head.message(own));
+    basis::lay(&mut room[9..], &broadcast.message(own));
+    Ok(18)
 }
 
-fn send_properties(room: &mut [u8], own: Address, head: Head, d: DataBytes) -> Sent
-    ensures { Sending (head_of own head ++ extended own head.to head.hops 0x2e (data_bytes d)) room.old result room.new }
+fn send_properties(
+    room: &mut [u8],
+    own: Address,
+    head: Head,
+    data: [u8; 14],
+) -> Result<usize, TooShort>
+    ensures { Sending (head_of own head ++ extended own head.to head.hops 0x2e (data_bytes «data»)) room.old result room.new }
 {
     if room.len() < 32 {
-        return Sent::Short;
+        return Err(TooShort);
     }
-    let to = head.to;
-    let hops = head.hops;
-    put_head(room, own, head);
-    put_extended(&mut room[9..], own, to, hops, 0x2e, d);
-    Sent::Whole(32)
+    let properties = head.of_data(0x2e).message(own);
+    basis::lay(room, &head.message(own));
+    put_extended(&mut room[9..], &properties, &data);
+    Ok(32)
 }
 
 fn send_records(
     room: &mut [u8],
     own: Address,
     head: Head,
-    data1: u8,
     links: &[u8],
-    k: usize,
-    count: usize,
-) -> Sent
-    ensures { Sending (head_of own head ++ sent_records own head.to head.hops data1 links.now k count)
+    asked: Asked,
+) -> Result<usize, TooShort>
+    ensures { Sending (head_of own head ++ sent_records own head.to head.hops asked.data1 links.now asked.first asked.most)
         room.old result room.new }
 {
-    let n = count_sent(links, k, count);
+    let n = asked.count(links);
     // So many would be too long; for fewer the length is a number that the machine has.
     if room.len() / 16 < n {
-        return Sent::Short;
+        return Err(TooShort);
     }
     let length = 9 + 23 * n;
     if room.len() < length {
-        return Sent::Short;
+        return Err(TooShort);
     }
-    let to = head.to;
-    let hops = head.hops;
-    put_head(room, own, head);
-    put_records(&mut room[9..], own, to, hops, data1, links, k, n);
-    Sent::Whole(length)
+    basis::lay(room, &head.message(own));
+    put_records(&mut room[9..], own, head, links, asked, n);
+    Ok(length)
 }

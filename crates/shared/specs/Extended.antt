@@ -7,13 +7,12 @@ use Rattle.wire.specs.declared.request.Request.{Request}
 use Rattle.wire.specs.declared.command.Extended.{Extended}
 use Rattle.wire.specs.Bytes.{data_in}
 use Rattle.links.specs.Name.{place_of}
-use Rattle.reply.specs.declared.due.DataBytes.{DataBytes}
 use Rattle.load.specs.declared.entry.Properties.{Properties}
 use Rattle.module.specs.declared.state.Module.{Module}
 use Rattle.module.specs.declared.change.Change.{Change}
 use Rattle.module.specs.declared.deed.Ack.{Ack}
 use Rattle.module.specs.declared.deed.Deed.{Deed}
-use Rattle.module.specs.Deed.{acked, limited}
+use Rattle.module.specs.Deed.{acked, answered, limited}
 
 -- 20: Command 2 is a flag's code, 00 to 0F
 abbrev pub flags_deed : Module → ℕ → Deed
@@ -34,36 +33,21 @@ unfoldable pub properties_deed : Request → List ℕ → Deed
 properties_deed r d = choose (eqb r.command2 0x00) (property_deed d) Deed.Unlisted
 
 -- Get Properties: Data 1 as sent, 01, 00, 00, house, unit, ramp, on level, LED, 00, 01, 00, 00, 00
-abbrev pub shown : Module → ℕ → Properties → DataBytes
+abbrev pub shown : Module → ℕ → Properties → List ℕ
 shown m data1 p =
-    record {
-      d1 = data1;
-      d2 = 0x01;
-      d3 = 0x00;
-      d4 = 0x00;
-      d5 = m.house;
-      d6 = m.unit;
-      d7 = p.ramp;
-      d8 = p.on_level;
-      d9 = m.led;
-      d10 = 0x00;
-      d11 = 0x01;
-      d12 = 0x00;
-      d13 = 0x00;
-      d14 = 0x00;
-    }
+    data1 ∷ 0x01 ∷ 0x00 ∷ 0x00 ∷ m.house ∷ m.unit ∷ p.ramp ∷ p.on_level ∷ m.led ∷ 0x00 ∷ 0x01 ∷ 0x00 ∷ 0x00 ∷ 0x00 ∷ []
 
 abbrev pub shown_deed : Module → ℕ → Properties → Deed
-shown_deed m data1 p = Deed.Done Change.Nothing (Ack.WithProperties (shown m data1 p))
+shown_deed m data1 p = answered (Ack.WithProperties (shown m data1 p))
 
 -- 2F, Data 2 = 00: records are sent from k on, Data 5 at most
 abbrev pub get_deed : List ℕ → Option ℕ → Deed
-get_deed d (Some k) = Deed.Done Change.Nothing (Ack.WithRecords (data_in d 1) k (data_in d 5))
+get_deed d (Some k) = answered (Ack.WithRecords (record { data1 = data_in d 1; first = k; most = data_in d 5 }))
 get_deed d None = Deed.Unlisted
 
 -- Data 2 = 02: Data 5 = 1 to 8 bytes, from Data 6 on, go over the first bytes of record k
 abbrev pub set_deed : List ℕ → Option ℕ → Deed
-set_deed d (Some k) = limited 1 8 (data_in d 5) (Deed.Written k (data_in d 5))
+set_deed d (Some k) = limited 1 8 (data_in d 5) (Deed.Written (record { index = k; count = data_in d 5 }))
 set_deed d None = Deed.Unlisted
 
 abbrev pub record_rows : List ℕ → Option ℕ → List (Row Deed)

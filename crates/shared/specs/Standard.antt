@@ -9,12 +9,12 @@ use Rattle.module.specs.declared.state.Module.{Module}
 use Rattle.module.specs.declared.change.Change.{Change}
 use Rattle.module.specs.declared.deed.Ack.{Ack}
 use Rattle.module.specs.declared.deed.Deed.{Deed}
-use Rattle.module.specs.Deed.{acked, telling}
+use Rattle.module.specs.Deed.{acked, answered, telling}
 
 -- 0F ping, 10 ID request
 abbrev pub open_deed : OpenCommand → Deed
 open_deed OpenCommand.Ping = acked Change.Nothing
-open_deed OpenCommand.IdRequest = Deed.Done Change.Nothing Ack.WithId
+open_deed OpenCommand.IdRequest = answered Ack.WithId
 
 -- 1F: Command 2 says what is asked for
 abbrev pub flag_bytes : Module → List (Row Deed)

@@ -1,10 +1,10 @@
 // 2F: link memory read and written over the wire ("Direct commands, extended").
-ghost use Rattle.std.specs.Prelude.{◌≡◌, ◌<◌};
+ghost use Rattle.std.specs.Prelude.{◌≡◌};
 ghost use Rattle.shared.specs.Extended.{get_deed, set_deed, record_deed, database_deed};
 
 use links::name::place_of;
-use module::change::Change;
-use module::deed::{Ack, Deed, limited};
+use module::deed::{Ack, Deed, Write};
+use reply::due::Asked;
 use wire::request::Request;
 
 // Command 2 must be 00.
@@ -23,7 +23,7 @@ fn record_deed(data: [u8; 14], records: usize) -> Deed
     ensures { result ≡ record_deed «data» records }
 {
     let what = data[1];
-    let place = place_of(records, wide(data[2]) * 256 + wide(data[3]));
+    let place = place_of(records, usize::from(data[2]) * 256 + usize::from(data[3]));
     match what {
         0x00 => get_deed(data, place),
         0x02 => set_deed(data, place),
@@ -36,10 +36,11 @@ fn get_deed(data: [u8; 14], place: Option<usize>) -> Deed
     ensures { result ≡ get_deed «data» place }
 {
     match place {
-        Some(k) => Deed::Done(
-            Change::Nothing,
-            Ack::WithRecords(data[0], k, wide(data[4])),
-        ),
+        Some(k) => Deed::answered(Ack::WithRecords(Asked {
+            data1: data[0],
+            first: k,
+            most: usize::from(data[4]),
+        })),
         None => Deed::Unlisted,
     }
 }
@@ -50,13 +51,11 @@ fn set_deed(data: [u8; 14], place: Option<usize>) -> Deed
 {
     let n = data[4];
     match place {
-        Some(k) => limited(1, 8, n, Deed::Written(k, wide(n))),
+        Some(k) => Deed::Written(Write {
+            index: k,
+            count: usize::from(n),
+        })
+        .limited(1, 8, n),
         None => Deed::Unlisted,
     }
-}
-
-fn wide(x: u8) -> usize
-    ensures { (result ≡ x) × (result < 256) }
-{
-    x as usize
 }

@@ -6,7 +6,7 @@ use crate::database::database_deed;
 use crate::flags::flagged;
 use crate::properties::properties_deed;
 use module::change::Change;
-use module::deed::{Deed, acked};
+use module::deed::Deed;
 use module::state::Module;
 use wire::command::Extended;
 use wire::request::Request;
@@ -34,7 +34,7 @@ fn flags_deed(m: Module, code: u8) -> Deed
     ensures { result ≡ flags_deed m code }
 {
     match code {
-        0x00..=0x0f => acked(Change::Flags(flagged(code, m.flags))),
+        0x00..=0x0f => Deed::acked(Change::Flags(flagged(code, m.flags))),
         _ => Deed::Unlisted,
     }
 }

@@ -4,9 +4,8 @@ ghost use Rattle.shared.specs.Extended.{property_deed, properties_deed, shown_de
 
 use load::entry::Properties;
 use module::change::Change;
-use module::deed::{Ack, Deed, acked, limited};
+use module::deed::{Ack, Deed};
 use module::state::Module;
-use reply::due::DataBytes;
 use wire::request::Request;
 
 // Command 2 must be 00.
@@ -27,8 +26,8 @@ fn property_deed(data: [u8; 14]) -> Deed
     let what = data[1];
     let x = data[2];
     match what {
-        0x04 => acked(Change::X10(x, data[3])),
-        0x07 => limited(0x11, 0x7f, x, acked(Change::Led(x))),
+        0x04 => Deed::acked(Change::X10(x, data[3])),
+        0x07 => Deed::acked(Change::Led(x)).limited(0x11, 0x7f, x),
         _ => Deed::Unlisted,
     }
 }
@@ -37,23 +36,8 @@ fn property_deed(data: [u8; 14]) -> Deed
 pub fn shown_deed(m: Module, data1: u8, p: Properties) -> Deed
     ensures { result ≡ shown_deed m data1 p }
 {
-    Deed::Done(
-        Change::Nothing,
-        Ack::WithProperties(DataBytes {
-            d1: data1,
-            d2: 0x01,
-            d3: 0x00,
-            d4: 0x00,
-            d5: m.house,
-            d6: m.unit,
-            d7: p.ramp,
-            d8: p.on_level,
-            d9: m.led,
-            d10: 0x00,
-            d11: 0x01,
-            d12: 0x00,
-            d13: 0x00,
-            d14: 0x00,
-        }),
-    )
+    Deed::answered(Ack::WithProperties([
+        data1, 0x01, 0x00, 0x00, m.house, m.unit, p.ramp, p.on_level, m.led, 0x00, 0x01, 0x00,
+        0x00, 0x00,
+    ]))
 }

@@ -3,7 +3,7 @@ ghost use Rattle.std.specs.Prelude.{◌≡◌};
 ghost use Rattle.shared.specs.Standard.{open_deed, flags_told, module_deed, standard_deed};
 
 use module::change::Change;
-use module::deed::{Ack, Deed, acked, telling};
+use module::deed::{Ack, Deed};
 use module::state::Module;
 use wire::command::{ModuleCommand, OpenCommand, Standard};
 use wire::request::Request;
@@ -22,8 +22,8 @@ fn open_deed(command: OpenCommand) -> Deed
     ensures { result ≡ open_deed command }
 {
     match command {
-        OpenCommand::Ping => acked(Change::Nothing),
-        OpenCommand::IdRequest => Deed::Done(Change::Nothing, Ack::WithId),
+        OpenCommand::Ping => Deed::acked(Change::Nothing),
+        OpenCommand::IdRequest => Deed::answered(Ack::WithId),
     }
 }
 
@@ -31,9 +31,9 @@ fn module_deed(m: Module, r: Request, command: ModuleCommand) -> Deed
     ensures { result ≡ module_deed m r command }
 {
     match command {
-        ModuleCommand::EngineVersion => telling(0x02),
+        ModuleCommand::EngineVersion => Deed::answered(Ack::Telling(0x02)),
         ModuleCommand::ReadFlags => flags_told(m, r.command2),
-        ModuleCommand::Beep => acked(Change::Nothing),
+        ModuleCommand::Beep => Deed::acked(Change::Nothing),
     }
 }
 
@@ -42,8 +42,8 @@ fn flags_told(m: Module, command2: u8) -> Deed
     ensures { result ≡ flags_told m command2 }
 {
     match command2 {
-        0x00 => telling(m.flags),
-        0x01 => telling(m.delta),
+        0x00 => Deed::answered(Ack::Telling(m.flags)),
+        0x01 => Deed::answered(Ack::Telling(m.delta)),
         _ => Deed::Unlisted,
     }
 }

@@ -4,7 +4,7 @@ use Rattle.decide.proofs.plan.direct_plan.Goals as goal
 
 pub returns-then-needs_no_link-is_ok : goal.returns-then-needs_no_link-is_ok
 unfolding direct_plan choose
-returns-then-needs_no_link-is_ok c = rw (c.deed_plan.ensures, c.deed_of-deed.ensures, rw (c.is_ok.ensures.value, c.needs_no_link.ensures) at c.if-needs_no_link-is_ok.true)
+returns-then-needs_no_link-is_ok c = rw (c.plan.ensures, c.deed_of-deed.ensures, rw (c.is_ok.ensures.value, c.needs_no_link.ensures) at c.if-needs_no_link-is_ok.true)
 
 pub returns : goal.returns
 unfolding direct_plan choose

@@ -6,6 +6,3 @@ use Rattle.reply.proofs.send.send.Goals as goal
 
 pub returns-in-Nothing : goal.returns-in-Nothing
 returns-in-Nothing c = rw c.in-Nothing.is (whole [] c.args.room.now 0 _ (omega arith) refl refl)
-
-pub returns-in-WithProperties : goal.returns-in-WithProperties
-returns-in-WithProperties c = rw c.in-WithProperties.is c.send_properties.ensures

@@ -13,6 +13,5 @@ returns-then-room-lt9 c =
 pub returns : goal.returns
 returns c =
     let g = c.args in
-    let room = g.room.now in
     let h = head_of g.own g.head in
-    whole h room 9 _ (omega arith) refl (c.put_head.ensures ∙ fits room h (omega arith))
+    whole h g.room.now 9 _ (omega arith) refl (rw c.message.ensures at c.lay.ensures ∙ fits g.room.now h (omega arith))

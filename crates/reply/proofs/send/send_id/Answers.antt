@@ -18,5 +18,6 @@ returns c =
     let room = g.room.now in
     let h = head_of g.own g.head in
     let more = standard g.own g.id ReplyType.IdBroadcast g.head.hops 0x01 g.revision in
-    let first = c.put_head.ensures in
-    whole (h ++ more) room 18 _ (omega arith) refl (behind room _ _ h more (omega arith) first c.put_standard.ensures)
+    let first = rw c.message.ensures at c.lay.ensures in
+    let second = rw c.message-2.ensures at c.lay-2.ensures in
+    whole (h ++ more) room 18 _ (omega arith) refl (behind room _ _ h more (omega arith) first second)

@@ -9,11 +9,11 @@ use Rattle.shared.proofs.database.record_deed.Goals as goal
 
 pub returns-in-0 : goal.returns-in-0
 unfolding record_deed choose
-returns-in-0 c = rw (c.get_deed.ensures, c.in-0.is, c.place_of-place.ensures, c.wide-2.ensures.0, c.wide.ensures.0)
+returns-in-0 c = rw (c.get_deed.ensures, c.in-0.is, c.place_of-place.ensures, c.from-2.ensures, c.from.ensures)
 
 pub returns-in-2 : goal.returns-in-2
 unfolding record_deed choose
-returns-in-2 c = rw (c.set_deed.ensures, c.in-2.is, c.place_of-place.ensures, c.wide-2.ensures.0, c.wide.ensures.0)
+returns-in-2 c = rw (c.set_deed.ensures, c.in-2.is, c.place_of-place.ensures, c.from-2.ensures, c.from.ensures)
 
 pub returns-in_default : goal.returns-in_default
 unfolding record_deed choose

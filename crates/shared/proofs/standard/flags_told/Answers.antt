@@ -6,11 +6,11 @@ use Rattle.shared.proofs.standard.flags_told.Goals as goal
 
 pub returns-in-0 : goal.returns-in-0
 unfolding flags_told choose
-returns-in-0 c = rw (c.telling.ensures, c.in-0.is)
+returns-in-0 c = rw (c.answered.ensures, c.in-0.is)
 
 pub returns-in-1 : goal.returns-in-1
 unfolding flags_told choose
-returns-in-1 c = rw (c.telling-in-1.ensures, c.in-1.is)
+returns-in-1 c = rw (c.answered-in-1.ensures, c.in-1.is)
 
 pub returns-in_default : goal.returns-in_default
 unfolding flags_told choose

@@ -26,7 +26,11 @@ pub(crate) fn is_call(to: Address, command: GroupCommand) -> bool
     }
 }
 
-pub(crate) fn broadcast_plan(load: Load, command: GroupCommand, found: Result<Link, Missing>) -> Plan
+pub(crate) fn broadcast_plan(
+    load: Load,
+    command: GroupCommand,
+    found: Result<Link, Missing>,
+) -> Plan
     ensures { result ≡ broadcast_plan load command found }
 {
     match found {
@@ -51,7 +55,12 @@ fn unconcerned() -> Plan
     refused(Outcome::Unconcerned, Due::Nothing)
 }
 
-pub(crate) fn cleanup_plan(load: Load, r: Request, command: GroupCommand, found: Result<Link, Missing>) -> Plan
+pub(crate) fn cleanup_plan(
+    load: Load,
+    r: Request,
+    command: GroupCommand,
+    found: Result<Link, Missing>,
+) -> Plan
     ensures { result ≡ cleanup_plan load r command found }
 {
     match found {

@@ -36,10 +36,7 @@ fn get_deed(data: [u8; 14], place: Option<usize>) -> Deed
     ensures { result ≡ get_deed «data» place }
 {
     match place {
-        Some(k) => Deed::Done(
-            Change::Nothing,
-            Ack::WithRecords(data[0], k, wide(data[4])),
-        ),
+        Some(k) => Deed::Done(Change::Nothing, Ack::WithRecords(data[0], k, wide(data[4]))),
         None => Deed::Unlisted,
     }
 }

@@ -8,7 +8,7 @@ use load::entry::{Entry, LoadEntry};
 use load::state::Load;
 use load::table::entry_of;
 use module::change::Change;
-use module::deed::{Deed, Ack};
+use module::deed::{Ack, Deed};
 use module::state::Module;
 use outlet::table::Outlet;
 use shared::properties::shown_deed;

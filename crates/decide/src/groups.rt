@@ -7,8 +7,8 @@ use links::memory::Link;
 use links::search::Missing;
 use load::state::Load;
 use module::change::Change;
-use reply::due::{Due, ReplyType, Head};
 use module::plan::Plan;
+use reply::due::{Due, Head, ReplyType};
 use results::Outcome;
 use wire::address::Address;
 use wire::command::GroupCommand;
@@ -25,7 +25,11 @@ pub(crate) fn is_call(to: Address, command: GroupCommand) -> bool
     }
 }
 
-pub(crate) fn broadcast_plan(load: Load, command: GroupCommand, found: Result<Link, Missing>) -> Plan
+pub(crate) fn broadcast_plan(
+    load: Load,
+    command: GroupCommand,
+    found: Result<Link, Missing>,
+) -> Plan
     ensures { result ≡ broadcast_plan load command found }
 {
     match found {
@@ -51,7 +55,12 @@ fn unconcerned() -> Plan
     Plan::refused(Outcome::Unconcerned, Due::Nothing)
 }
 
-pub(crate) fn cleanup_plan(load: Load, r: Request, command: GroupCommand, found: Result<Link, Missing>) -> Plan
+pub(crate) fn cleanup_plan(
+    load: Load,
+    r: Request,
+    command: GroupCommand,
+    found: Result<Link, Missing>,
+) -> Plan
     ensures { result ≡ cleanup_plan load r command found }
 {
     match found {

@@ -60,4 +60,3 @@ module _ (l : List ℕ) (w : Wanted) where
           let all : (j : ℕ) → j < records l → settles_at l w j ≡ false = λ j g. n.never j (omega arith) (omega arith) in
           rw (at_memory_end l k (omega (arith, n.behind)))
           (exhausted (unmarked_before (records l) all) (λ j m. none_before (records l) all j m.live.inside m))
-

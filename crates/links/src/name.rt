@@ -22,11 +22,7 @@ pub fn place_of(records: usize, address: usize) -> Option<usize>
         return None;
     }
     let k = below / 8;
-    if k < records {
-        Some(k)
-    } else {
-        None
-    }
+    if k < records { Some(k) } else { None }
 }
 
 // Hub software asks from 0000 and means the first record (request 3).

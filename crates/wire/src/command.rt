@@ -1,7 +1,7 @@
 // What a message asks for, by its Command 1: what every module answers alike has a name here. All else is its load's to list, by the bytes
 // themselves, in the crate of its kind.
 ghost use Rattle.std.specs.Prelude.{◌≡◌};
-ghost use Rattle.wire.specs.Commands.{standard_of, extended_of, turn_of, group_command_of};
+ghost use Rattle.wire.specs.Commands.{standard_of, extended_of, group_command_of};
 
 // "Direct commands, standard": those that need no link, those that every module takes, and all others.
 #[derive(Clone, Copy)]
@@ -48,46 +48,44 @@ pub enum GroupCommand {
     Unlisted,
 }
 
-pub(crate) fn standard_of(command1: u8) -> Standard
-    ensures { result ≡ standard_of command1 }
-{
-    match command1 {
-        0x0f => Standard::Open(OpenCommand::Ping),
-        0x10 => Standard::Open(OpenCommand::IdRequest),
-        0x0d => Standard::Module(ModuleCommand::EngineVersion),
-        0x1f => Standard::Module(ModuleCommand::ReadFlags),
-        0x30 => Standard::Module(ModuleCommand::Beep),
-        _ => Standard::Load,
+// From Command 1, as the three tables list it.
+impl From<u8> for Standard {
+    ghost from_gives = { λ command1 command. command ≡ standard_of command1 };
+
+    fn from(command1: u8) -> Standard {
+        match command1 {
+            0x0f => Standard::Open(OpenCommand::Ping),
+            0x10 => Standard::Open(OpenCommand::IdRequest),
+            0x0d => Standard::Module(ModuleCommand::EngineVersion),
+            0x1f => Standard::Module(ModuleCommand::ReadFlags),
+            0x30 => Standard::Module(ModuleCommand::Beep),
+            _ => Standard::Load,
+        }
     }
 }
 
-pub(crate) fn extended_of(command1: u8) -> Extended
-    ensures { result ≡ extended_of command1 }
-{
-    match command1 {
-        0x20 => Extended::SetFlags,
-        0x2e => Extended::Properties,
-        0x2f => Extended::Database,
-        _ => Extended::Load,
+impl From<u8> for Extended {
+    ghost from_gives = { λ command1 command. command ≡ extended_of command1 };
+
+    fn from(command1: u8) -> Extended {
+        match command1 {
+            0x20 => Extended::SetFlags,
+            0x2e => Extended::Properties,
+            0x2f => Extended::Database,
+            _ => Extended::Load,
+        }
     }
 }
 
-pub(crate) fn group_command_of(command1: u8) -> GroupCommand
-    ensures { result ≡ group_command_of command1 }
-{
-    match command1 {
-        0x11..=0x14 => turn_of(command1),
-        _ => GroupCommand::Unlisted,
-    }
-}
+impl From<u8> for GroupCommand {
+    ghost from_gives = { λ command1 command. command ≡ group_command_of command1 };
 
-// 11 and 12 turn on, 13 and 14 off.
-fn turn_of(command1: u8) -> GroupCommand
-    ensures { result ≡ turn_of command1 }
-{
-    if command1 <= 0x12 {
-        GroupCommand::On
-    } else {
-        GroupCommand::Off
+    // 11 and 12 turn on, 13 and 14 off.
+    fn from(command1: u8) -> GroupCommand {
+        match command1 {
+            0x11..=0x12 => GroupCommand::On,
+            0x13..=0x14 => GroupCommand::Off,
+            _ => GroupCommand::Unlisted,
+        }
     }
 }

@@ -6,7 +6,7 @@ ghost use Rattle.wire.specs.Checksum.{is_sum_wrong};
 ghost use Rattle.wire.specs.Reading.{bare, read_of, heard_in, ReadPromise};
 
 use crate::address::Address;
-use crate::command::{Command, extended_of, group_command_of, standard_of};
+use crate::command::{Command, Extended, GroupCommand, Standard};
 use crate::kind::{Message, MessageKind, Unread};
 use crate::request::Request;
 use crate::sum;
@@ -152,8 +152,8 @@ fn kind_of(head: &[u8; 9]) -> MessageKind
     let command1 = request.command1;
     match head[6] / 32 {
         0 => MessageKind::Direct(request, command_of(is_extended(head), command1)),
-        2 => MessageKind::Cleanup(request, group_command_of(command1)),
-        _ => MessageKind::Broadcast(from_of(head), to_of(head), group_command_of(command1)),
+        2 => MessageKind::Cleanup(request, GroupCommand::from(command1)),
+        _ => MessageKind::Broadcast(from_of(head), to_of(head), GroupCommand::from(command1)),
     }
 }
 
@@ -173,9 +173,9 @@ fn command_of(is_long: bool, command1: u8) -> Command
     ensures { result ≡ command_of is_long command1 }
 {
     if is_long {
-        Command::Extended(extended_of(command1))
+        Command::Extended(Extended::from(command1))
     } else {
-        Command::Standard(standard_of(command1))
+        Command::Standard(Standard::from(command1))
     }
 }
 

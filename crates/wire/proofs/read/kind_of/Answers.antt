@@ -9,11 +9,11 @@ returns-in-0 c = rw (c.command_of.ensures, c.is_extended.ensures, c.in-0.is, c.r
 
 pub returns-in-2 : goal.returns-in-2
 unfolding kind_of choose
-returns-in-2 c = rw (c.group_command_of.ensures, c.in-2.is, c.request_of-request.ensures)
+returns-in-2 c = rw (c.from.ensures, c.in-2.is, c.request_of-request.ensures)
 
 pub returns-in_default : goal.returns-in_default
 unfolding kind_of choose
 returns-in_default c =
     let type = type_of c.args.head.now in
     let other = c.in_default.in_default-own.rest in
-    rw (ne_eqb type 0 other.0.1, ne_eqb type 2 other.1, c.group_command_of-in_default.ensures, c.to_of.ensures, c.from_of.ensures, c.request_of-request.ensures)
+    rw (ne_eqb type 0 other.0.1, ne_eqb type 2 other.1, c.from-in_default.ensures, c.to_of.ensures, c.from_of.ensures, c.request_of-request.ensures)

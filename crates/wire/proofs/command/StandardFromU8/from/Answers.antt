@@ -3,7 +3,7 @@ use mathlib.Core.Path.{sym}
 use Rattle.basis.proofs.Table.{missed}
 use Rattle.basis.specs.Choice.{choose}
 use Rattle.wire.specs.Commands.{standards}
-use Rattle.wire.proofs.command.standard_of.Goals as goal
+use Rattle.wire.proofs.command.StandardFromU8.from.Goals as goal
 
 pub returns-in-15 : goal.returns-in-15
 unfolding standards choose

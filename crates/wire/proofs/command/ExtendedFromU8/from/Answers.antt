@@ -3,7 +3,7 @@ use mathlib.Core.Path.{sym}
 use Rattle.basis.proofs.Table.{missed}
 use Rattle.basis.specs.Choice.{choose}
 use Rattle.wire.specs.Commands.{extendeds}
-use Rattle.wire.proofs.command.extended_of.Goals as goal
+use Rattle.wire.proofs.command.ExtendedFromU8.from.Goals as goal
 
 pub returns-in-32 : goal.returns-in-32
 unfolding extendeds choose

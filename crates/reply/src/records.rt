@@ -1,5 +1,5 @@
 // The records that Get Database sends ("Direct commands, extended").
-ghost use Rattle.std.specs.Prelude.{◌≡◌, ◌-◌, ◌*◌, ◌/◌, ◌%◌, ◌≤◌, ◌<◌, ◌∷◌, ◌++◌, [], length};
+ghost use Rattle.std.specs.Prelude.{◌≡◌, ◌-◌, ◌*◌, ◌/◌, ◌%◌, ◌≤◌, ◌<◌, ◌∷◌, ◌++◌, [], length, take};
 ghost use Rattle.basis.specs.Laid.{laid_if_fits};
 ghost use Rattle.links.specs.Name.{name_of};
 ghost use Rattle.links.specs.Record.{records, record_at};
@@ -42,10 +42,21 @@ fn record_data(links: &[u8], k: usize, data1: u8) -> [u8; 14]
     let mut data = [0x00; 14];
     data[0] = data1;
     data[1] = 0x01;
+    // By two divisions: `to_be_bytes` is of a number of just two bytes, and the way to one is longer.
     data[2] = (name / 256) as u8;
     data[3] = (name % 256) as u8;
     data[5..13].copy_from_slice(&record_or_blank(links, k));
     data
+}
+
+// The head of a message that is laid.
+fn laid_head(room: &[u8]) -> [u8; 9]
+    requires { 9 ≤ length room.now }
+    ensures { result ≡ take 9 room.now }
+{
+    let mut head = [0x00; 9];
+    head.copy_from_slice(&room[..9]);
+    head
 }
 
 // The first `n` of the records that are asked for, each directly after the one before it.
@@ -61,10 +72,17 @@ pub(crate) fn put_records(
     requires n_in_bounds { 23 * n ≤ length room.old }
     ensures { room.new ≡ laid_if_fits room.old (records_from own head.to head.hops asked.data1 links.now n asked.first) }
 {
-    let each = head.of_data(0x2f).message(own);
+    if n == 0 {
+        return;
+    }
     let data1 = asked.data1;
     let first = asked.first;
-    for i in 0..n {
+    let each = head.of_data(0x2f).message(own);
+    let data = record_data(links, first, data1);
+    put_extended(room, &each, &data);
+    for i in 1..n {
+        // Read again from the first message: bytes of the room go by words, those of an address one by one.
+        let each = laid_head(room);
         let at = 23 * i;
         let data = record_data(links, first + i, data1);
         put_extended(&mut room[at..], &each, &data);

@@ -33,8 +33,9 @@ use Rattle.row.specs.declared.progress.Progress.{Progress}
 use Rattle.row.specs.Row.{is_row_fit, seat_named, is_doubled}
 use Rattle.class.specs.Seat.{nobody, seat_at, name_at, share_at, with_share}
 use Rattle.class.specs.Class.{ClassStep, refused_by, served_at, addressed_to, Heard, heard_at, heard_from, offered_to, broadcast_to, class_of, ClassComes}
-use Rattle.row.specs.Round.{silent, ended, task_of, begun, opened, all_named, noticed, name_in, second_round, addressed, scope_of, by_scope, settled}
-use Rattle.class.specs.Turns.{answer_of, joined, offered, noted}
+use Rattle.row.specs.Answer.{silent, joined}
+use Rattle.row.specs.Round.{ended, task_of, begun, opened, all_named, noticed, name_in, second_round, addressed, scope_of, by_scope, settled}
+use Rattle.class.specs.Turns.{answer_of, offered, noted}
 use Rattle.row.proofs.Fit.{Fit, fit, share_there}
 use Rattle.row.proofs.Named.{same_address, named_agrees, doubled_agrees, found}
 use Rattle.row.proofs.Readings.{says_to, only_unheard, not_direct, not-cleanup, read_alike, not-summed, some_kind}

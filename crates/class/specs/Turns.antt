@@ -1,18 +1,15 @@
 -- How the row is walked, turn after turn: first every seat's address is noted, then seats are served. What comes of it is `Class`.
-use Rattle.std.specs.Prelude.{ℕ, ◌+◌, ◌*◌, ◌≤◌, ◌<◌, ◌≡◌, List, eqb, ltb, length, set}
+use Rattle.std.specs.Prelude.{ℕ, ◌+◌, ◌*◌, ◌≤◌, ◌<◌, ◌≡◌, List, ltb, length, set}
 use Rattle.basis.specs.Choice.{choose}
 use Rattle.wire.specs.declared.address.Address.{Address}
 use Rattle.wire.specs.declared.kind.Message.{Message}
-use Rattle.results.specs.declared.Outcome.{Outcome}
-use Rattle.results.specs.Number.{number_of}
 use Rattle.module.specs.declared.state.Module.{Module}
 use Rattle.device.specs.declared.step.Answer.{Answer}
 use Rattle.device.specs.Step.{Step, step_by}
-use Rattle.row.specs.declared.outcome.ClassOutcome.{ClassOutcome}
-use Rattle.row.specs.declared.progress.Whom.{Whom}
 use Rattle.row.specs.declared.progress.ClassAnswer.{ClassAnswer}
 use Rattle.row.specs.declared.progress.Round.{Round}
 use Rattle.row.specs.declared.progress.Progress.{Progress}
+use Rattle.row.specs.Answer.{of_seat, and_seat}
 use Rattle.row.specs.Round.{ended, settled}
 use Rattle.class.specs.declared.turn.Tended.{Tended}
 use Rattle.class.specs.Seat.{share_at, with_share}
@@ -50,15 +47,11 @@ answer_of x = record { outcome = x.outcome; length = length x.reply; read = x.re
 -- one seat alone
 abbrev pub served : Progress → Answer → Tended
 served t a =
-    let answer : ClassAnswer = record { outcome = ClassOutcome.Single a.outcome; length = a.length; read = a.read; whom = Whom.Seat t.seat } in
-    record { next = a.next; progress = ended t answer }
+    record { next = a.next; progress = ended t (of_seat t.seat a.outcome a.length a.read) }
 
--- one of all
-abbrev pub joined : ClassOutcome → Outcome → ClassOutcome
-joined before outcome = choose (eqb (number_of outcome) 0) (ClassOutcome.Single Outcome.Done) before
-
+-- one of all: the records read are those of all
 abbrev pub with_seat : ClassAnswer → Answer → ClassAnswer
-with_seat before a = record { outcome = joined before.outcome a.outcome; length = 0; read = before.read + a.read; whom = before.whom }
+with_seat before a = and_seat before a.outcome (before.read + a.read)
 
 abbrev pub offered : Progress → Answer → Tended
 offered t a =

@@ -22,6 +22,8 @@ pub fn class_step(
 {
     let heard = hear(message);
     let mut t = open(row.len(), links.len(), heard);
+    // Stays a `while`: each turn says whose turn is next, and a row may be walked twice, so that no `for` goes along it. Under a `while let` on
+    // `get_mut` the proof does not close, since the check learns nothing of the row behind such a loan.
     while t.seat < row.len() {
         t = tend(&mut row[t.seat], t, heard, links, room);
     }

@@ -1,13 +1,11 @@
 // One seat's turn. What a seat is offered is the reading, and of link memory its own share.
-ghost use Rattle.std.specs.Prelude.{◌≡◌, ◌+◌, ◌≤◌, ◌<◌, length, set};
+ghost use Rattle.std.specs.Prelude.{◌≡◌, ◌≤◌, ◌<◌, length};
 ghost use Rattle.device.specs.Step.{Comes};
-ghost use Rattle.class.specs.Turns.{note, noted, joined, offered, served, step_in, turn_of, Ready, Took};
+ghost use Rattle.class.specs.Turns.{note, noted, offered, served, step_in, turn_of, Ready, Took};
 
 use device::step::{Answer, serve};
 use module::state::Module;
-use results::{Outcome, number};
-use row::outcome::ClassOutcome;
-use row::progress::{ClassAnswer, Progress, Round, Whom, ended};
+use row::progress::{ClassAnswer, Progress, Round, ended};
 use row::settle::settle;
 use wire::address::Address;
 use wire::kind::Message;
@@ -57,26 +55,17 @@ fn noted(t: Progress, a: Address) -> Progress
     ensures { result ≡ noted t a }
 {
     let next = t.seat + 1;
-    let names = t.names;
-    let more = with_name(names, t.seat, a);
+    let mut names = t.names;
+    names[t.seat] = a;
     let after = Progress {
         seat: next,
-        names: more,
+        names: names,
         ..t
     };
     if next < t.task.seats {
         return after;
     }
     settle(after)
-}
-
-fn with_name(names: [Address; 16], seat: usize, a: Address) -> [Address; 16]
-    requires { seat < 16 }
-    ensures { result ≡ set names seat a }
-{
-    let mut noted = names;
-    noted[seat] = a;
-    noted
 }
 
 // The seat's own step, with its own share.
@@ -95,12 +84,7 @@ fn served(t: Progress, a: Answer) -> Tended
 {
     let outcome = a.outcome;
     let next = a.next;
-    let answer = ClassAnswer {
-        outcome: ClassOutcome::Single(outcome),
-        length: a.length,
-        read: a.read,
-        whom: Whom::Seat(t.seat),
-    };
+    let answer = ClassAnswer::of_seat(t.seat, outcome, a.length, a.read);
     Tended {
         next: next,
         progress: ended(t, answer),
@@ -113,15 +97,9 @@ fn offered(t: Progress, a: Answer) -> Tended
     ensures { result ≡ offered t a }
 {
     let before = t.answer;
-    let so_far = before.outcome;
     let outcome = a.outcome;
     let next = a.next;
-    let answer = ClassAnswer {
-        outcome: joined(so_far, outcome),
-        length: 0,
-        read: before.read + a.read,
-        ..before
-    };
+    let answer = before.and_seat(outcome, before.read + a.read);
     Tended {
         next: next,
         progress: Progress {
@@ -130,14 +108,4 @@ fn offered(t: Progress, a: Answer) -> Tended
             ..t
         },
     }
-}
-
-// Done where any seat acted.
-fn joined(so_far: ClassOutcome, outcome: Outcome) -> ClassOutcome
-    ensures { result ≡ joined so_far outcome }
-{
-    if number(outcome) == 0 {
-        return ClassOutcome::Single(Outcome::Done);
-    }
-    so_far
 }

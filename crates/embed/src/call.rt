@@ -6,7 +6,6 @@ use device::step::step;
 use image::held::held_in;
 use image::report::tell;
 use image::store::store;
-use results::number;
 
 // The number of an image or a report that does not fit.
 const UNFIT: u64 = 255;
@@ -21,18 +20,16 @@ pub fn dreelish_step(
     ensures { Returns (returned_of image.old links.old message.now room.old report.old)
         result image.new links.new room.new report.new }
 {
-    let held = held_in(image);
-    if !held.is_one {
+    let Some(m) = held_in(image) else {
         return UNFIT;
-    }
+    };
     if report.len() < 2 {
         return UNFIT;
     }
-    let m = held.module;
     let answer = step(m, links, message, room);
     let next = answer.next;
     store(image, next);
     tell(report, answer.length, answer.read);
     let outcome = answer.outcome;
-    number(outcome) as u64
+    u64::from(u8::from(outcome))
 }

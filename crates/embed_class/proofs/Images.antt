@@ -1,10 +1,12 @@
 -- Images one behind the other, and the modules that they hold.
 use Prim.Native.Nat.{ℕ, zero, suc, ◌+◌, ◌-◌, ◌*◌, ◌<◌}
 use mathlib.Core.Path.{◌≡◌, refl, sym, ◌∙◌, ap}
-use mathlib.Core.Bool.{true, false}
+use mathlib.Core.Bool.{Bool, true, false, ◌&&◌}
 use mathlib.Core.List.{List}
 use native.Mathlib.Nat.{not-suc-le-zero}
 use native.Mathlib.Omega.{arith}
+use Rattle.std.specs.Simd.{first_chunks}
+use Rattle.std.specs.List.{list_all}
 use lib.Dec.{eqb}
 use lib.ListN.{length, take, drop}
 use lib.Seq.{drop-drop}
@@ -33,30 +35,15 @@ pub row_by_images : (k : ℕ) (s : List ℕ) → length s ≡ k * LENGTH → is_
 unfolding is_row
 row_by_images k s n = rw (eq-eqb (length s) (k * LENGTH) n)
 
--- image by image
-pub images_next : (k : ℕ) (s : List ℕ) → 0 < k → is_image (take LENGTH s) ≡ true → are_images k s ≡ are_images (k - 1) (drop LENGTH s)
+-- cut image by image
+pub all_chunks : (k : ℕ) (s : List ℕ) → list_all (λ image. is_image image) (first_chunks LENGTH k s) ≡ are_images k s
 unfolding are_images
-images_next zero s h one = absurd (not-suc-le-zero h)
-images_next (suc k) s h one = let e : suc k - 1 ≡ k = omega arith in rw (one, e)
-
-pub images_end : (k : ℕ) (s : List ℕ) → 0 < k → is_image (take LENGTH s) ≡ false → are_images k s ≡ false
-unfolding are_images
-images_end zero s h none = absurd (not-suc-le-zero h)
-images_end (suc k) s h none = rw none
-
-pub no_more : (k : ℕ) (s : List ℕ) → k ≡ 0 → are_images k s ≡ true
-unfolding are_images
-no_more k s e = rw e
+all_chunks zero s = refl
+all_chunks (suc k) s = ap (λ (rest : Bool). is_image (take LENGTH s) && rest) (all_chunks k (drop LENGTH s))
 
 -- what is lent of the bytes for seat k is image k
 pub lent : (k : ℕ) (s : List ℕ) → mid_of (k * LENGTH) (k * LENGTH + LENGTH - k * LENGTH) s ≡ image_in k s
 lent k s = ap (λ (n : ℕ). mid_of (k * LENGTH) n s) (between (k * LENGTH) LENGTH)
-
--- and behind it the next one begins
-pub past : (k : ℕ) (s : List ℕ) → drop ((k + 1) * LENGTH) s ≡ drop LENGTH (drop (k * LENGTH) s)
-past k s =
-    let e : (k + 1) * LENGTH ≡ k * LENGTH + LENGTH = omega arith in
-    ap (λ (n : ℕ). drop n s) e ∙ sym (drop-drop LENGTH (k * LENGTH) s)
 
 -- it holds as many modules as it has images
 pub row_count : (k : ℕ) (s : List ℕ) → length (row_of k s) ≡ k

@@ -12,20 +12,20 @@ use Rattle.module.specs.Module.{kind_of}
 use Rattle.device.specs.Step.{Step, step_by}
 use Rattle.device.proofs.Lasting.{identity_by, kind_by}
 use Rattle.device.proofs.Counted.{most_read}
-use Rattle.row.specs.declared.outcome.ClassOutcome.{ClassOutcome}
-use Rattle.row.specs.declared.progress.Whom.{Whom}
+use Rattle.device.specs.declared.step.Answer.{Answer}
+use Rattle.row.specs.Answer.{of_seat, and_seat}
 use Rattle.row.specs.declared.progress.Round.{Round}
 use Rattle.row.specs.declared.progress.ClassAnswer.{ClassAnswer}
 use Rattle.row.specs.declared.progress.Progress.{Progress}
 use Rattle.class.specs.Seat.{seat_at, share_at, with_share}
 use Rattle.class.specs.Class.{ClassStep}
 use Rattle.row.proofs.Noticed.{Serves, one, all}
-use Rattle.class.specs.Turns.{Turn, answer_of, offered, served, turn_by, Ready}
+use Rattle.class.specs.Turns.{Turn, answer_of, with_seat, offered, served, turn_by, Ready}
 use Rattle.class.proofs.Runs.{Runs, Next, next, over}
-use Rattle.image.specs.Image.{held_in, stored_in, stored_if_own}
-use Rattle.image.proofs.Whole.{Own, own, stays_own, whole_module, stored_again, held_there}
+use Rattle.image.specs.Image.{is_image, module_of, stored_in, stored_if_own}
+use Rattle.image.proofs.Whole.{Own, own, stays_own, whole_module, stored_again}
 use Rattle.embed_class.specs.Row.{image_in, with_image, stored_row}
-use Rattle.embed_class.specs.Serve.{is_for_all, seat_step_in, with_seat, SeatComes, RowComes}
+use Rattle.embed_class.specs.Serve.{is_for_all, seat_step_in, SeatComes, RowComes}
 use Rattle.embed_class.proofs.Stored.{Fit, own_at, image_at, put_at, fit_set}
 
 -- which round it is, by the test that is made
@@ -100,11 +100,13 @@ module _ (target : ClassStep) (heard : Message) (bytes count : ℕ) (t : Progres
     its-image : image_in seat images ≡ stored_in x m
     its-image = ap (image_in seat) u.held ∙ image_at u.row before seat u.fit there
 
+    pub is_one : is_image (image_in seat images) ≡ true
+    is_one = ap is_image its-image ∙ (stays_own x m mine).is_one
+
     -- it holds the module of the seat
     same_step : seat_step_in t.task.share seat images links heard room ≡ y
     same_step =
-        let there-held = held_there (stored_in x m) (held_in (stored_in x m)) refl (stays_own x m mine).is_one in
-        let it = ap (λ (s : List ℕ). (held_in s).«module») its-image ∙ there-held ∙ whole_module x m mine in
+        let it = ap module_of its-image ∙ whole_module x m mine in
         λ j. step_by (it j) (share_at t.task.share seat links) heard room
 
     -- which stays of its kind and identity
@@ -135,20 +137,19 @@ module _ (target : ClassStep) (heard : Message) (bytes count : ℕ) (t : Progres
     turned : (round : Round) → t.round ≡ round → Turned round
     turned round e = subst Turned e onward.runs
 
-    module _ (own : ClassAnswer) (images' links' room' : List ℕ) (s : SeatComes t.task.share seat images links heard room own images' links' room') where
-      abbrev said : ClassAnswer
-      said = record { outcome = ClassOutcome.Single y.outcome; length = length y.reply; read = y.read; whom = Whom.Seat seat }
+    module _ (own : Answer) (images' links' room' : List ℕ) (s : SeatComes t.task.share seat images links heard room own images' links' room') where
+      outcome : own.outcome ≡ y.outcome
+      outcome = s.outcome ∙ ap (λ (x : Step). x.outcome) same_step
 
-      its-answer : own ≡ said
-      its-answer =
-          let outcome = s.outcome ∙ ap (λ (x : Step). ClassOutcome.Single x.outcome) same_step in
-          let sent = s.sent ∙ ap (λ (x : Step). length x.reply) same_step in
-          let read = s.read ∙ ap (λ (x : Step). x.read) same_step in
-          λ j. record { outcome = outcome j; length = sent j; read = read j; whom = s.whom j }
+      sent : own.length ≡ length y.reply
+      sent = s.sent ∙ ap (λ (x : Step). length x.reply) same_step
+
+      read : own.read ≡ y.read
+      read = s.read ∙ ap (λ (x : Step). x.read) same_step
 
       -- it reads no more records than a share has
       pub few : own.read ≤ 256
-      few = subst (λ (n : ℕ). n ≤ 256) (sym s.read) (most_read (held_in (image_in seat images)).«module» (share_at t.task.share seat links) heard room)
+      few = subst (λ (n : ℕ). n ≤ 256) (sym s.read) (most_read (module_of (image_in seat images)) (share_at t.task.share seat links) heard room)
 
       -- wherever the turn leads, that is where the row stands
       abbrev Gone : Progress → Type 0
@@ -175,9 +176,9 @@ module _ (target : ClassStep) (heard : Message) (bytes count : ℕ) (t : Progres
       pub to-next : is_for_all t.round ≡ true → Standing images' links' room' (seat + 1) (with_seat answer own)
       to-next a =
           leads (offered (at seat answer) (answer_of y)).progress (turned Round.All (for_all t.round a)) (seat + 1) (with_seat answer own)
-          (ap (λ (x : ClassAnswer). at (seat + 1) (with_seat answer x)) (sym its-answer))
+          (λ j. at (seat + 1) (and_seat answer (sym outcome j) (answer.read + sym read j)))
 
-      pub to_end : is_for_all t.round ≡ false → Standing images' links' room' count own
+      pub to_end : is_for_all t.round ≡ false → Standing images' links' room' count (of_seat seat own.outcome own.length own.read)
       to_end a =
-          leads (served (at seat answer) (answer_of y)).progress (turned Round.One (for_one t.round (u.serves inside) a)) count own
-          (λ j. at (u.seats j) (sym its-answer j))
+          leads (served (at seat answer) (answer_of y)).progress (turned Round.One (for_one t.round (u.serves inside) a)) count (of_seat seat own.outcome own.length own.read)
+          (λ j. at (u.seats j) (of_seat seat (sym outcome j) (sym sent j) (sym read j)))

@@ -32,6 +32,10 @@ unfoldable pub stored_row : List Module → List ℕ → List ℕ
 stored_row [] s = s
 stored_row (m ∷ row) s = stored_in (take LENGTH s) m ++ stored_row row (drop LENGTH s)
 
+-- the address of the module that an image holds
+abbrev pub address_in : List ℕ → Address
+address_in s = (module_of s).identity.address
+
 -- the addresses of a row
 unfoldable pub names_of : List Module → List Address
 names_of [] = []

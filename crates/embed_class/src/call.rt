@@ -5,7 +5,7 @@ ghost use Rattle.embed_class.specs.ClassCall.{class_returned_of};
 use crate::serve::serve_row;
 use crate::strip::is_row;
 use image::report::tell;
-use row::outcome::{ClassOutcome, class_number};
+use row::outcome::ClassOutcome;
 
 // The number of images or a report that do not fit.
 const UNFIT: u64 = 255;
@@ -29,10 +29,10 @@ pub fn dreelish_class_step(
     }
     if 16 < count {
         tell(report, 0, 0);
-        return class_number(ClassOutcome::Unfit) as u64;
+        return u64::from(u8::from(ClassOutcome::Unfit));
     }
     let answer = serve_row(images, count, links, message, room);
     tell(report, answer.length, answer.read);
     let outcome = answer.outcome;
-    class_number(outcome) as u64
+    u64::from(u8::from(outcome))
 }

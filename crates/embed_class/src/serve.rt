@@ -2,17 +2,16 @@
 ghost use Rattle.std.specs.Prelude.{◌≡◌, true, ◌+◌, ◌*◌, ◌≤◌, length};
 ghost use Rattle.class.specs.Class.{class_of};
 ghost use Rattle.image.specs.Places.{LENGTH};
-ghost use Rattle.embed_class.specs.Row.{is_row, row_of};
-ghost use Rattle.embed_class.specs.Serve.{is_for_all, joined_by, with_seat, SeatComes, RowComes};
+ghost use Rattle.image.specs.Image.{is_image};
+ghost use Rattle.embed_class.specs.Row.{image_in, is_row, row_of};
+ghost use Rattle.embed_class.specs.Serve.{is_for_all, SeatComes, RowComes};
 
 use crate::strip::names_of;
-use device::step::serve;
+use device::step::{Answer, serve};
 use image::held::held_in;
 use image::places::LENGTH;
 use image::store::store;
-use results::Outcome;
-use row::outcome::{ClassOutcome, class_number};
-use row::progress::{ClassAnswer, Round, Whom};
+use row::progress::{ClassAnswer, Round};
 use row::settle::noticed;
 use wire::kind::Message;
 use wire::read::hear;
@@ -30,22 +29,24 @@ pub(crate) fn serve_row(
         (class_of (row_of count images.old) links.old message.now room.old)
         result images.new links.new room.new }
 {
-    let names = names_of(images, count);
+    let (each, _) = images.as_chunks::<LENGTH>();
+    let names = names_of(each);
     let heard = hear(message);
     let t = noticed(names, count, links.len(), heard);
     let round = t.round;
-    let all = is_for_all(round);
     let mut answer = t.answer;
-    let mut seat = t.seat;
-    while seat < count {
-        let own = serve_seat(images, seat, t.task.share, links, heard, room);
-        if all {
-            answer = with_seat(answer, own);
-            seat += 1;
-        } else {
-            answer = own;
-            seat = count;
+    if !is_for_all(round) {
+        if count <= t.seat {
+            return answer;
         }
+        let own = serve_seat(images, t.seat, t.task.share, links, heard, room);
+        let outcome = own.outcome;
+        return ClassAnswer::of_seat(t.seat, outcome, own.length, own.read);
+    }
+    for seat in t.seat..count {
+        let own = serve_seat(images, seat, t.task.share, links, heard, room);
+        let outcome = own.outcome;
+        answer = answer.and_seat(outcome, answer.read + own.read);
     }
     answer
 }
@@ -60,30 +61,6 @@ fn is_for_all(round: Round) -> bool
     }
 }
 
-// A broadcast is carried out where any seat acted, and the records read are those of all.
-fn with_seat(before: ClassAnswer, own: ClassAnswer) -> ClassAnswer
-    requires { (before.read ≤ 4096) × (own.read ≤ 256) }
-    ensures { result ≡ with_seat before own }
-{
-    let so_far = before.outcome;
-    let outcome = own.outcome;
-    ClassAnswer {
-        outcome: joined(so_far, outcome),
-        length: 0,
-        read: before.read + own.read,
-        ..before
-    }
-}
-
-fn joined(so_far: ClassOutcome, outcome: ClassOutcome) -> ClassOutcome
-    ensures { result ≡ joined_by so_far outcome }
-{
-    if class_number(outcome) == 0 {
-        return ClassOutcome::Single(Outcome::Done);
-    }
-    so_far
-}
-
 // One seat, with its own image and its own share.
 fn serve_seat(
     images: &mut [u8],
@@ -92,26 +69,22 @@ fn serve_seat(
     links: &mut [u8],
     heard: Message,
     room: &mut [u8],
-) -> ClassAnswer
+) -> Answer
     requires seat_in_bounds { seat * LENGTH + LENGTH ≤ length images.old }
     requires share_in_bounds { seat * share + share ≤ length links.old }
+    requires image { is_image (image_in seat images.old) ≡ true }
     ensures { SeatComes share seat images.old links.old heard room.old
         result images.new links.new room.new }
 {
     let at = seat * LENGTH;
     let end = at + LENGTH;
-    let held = held_in(&images[at..end]);
-    let m = held.module;
+    let Some(m) = held_in(&images[at..end]) else {
+        unreachable!()
+    };
     let from = seat * share;
     let behind = from + share;
     let a = serve(m, &mut links[from..behind], heard, room);
     let next = a.next;
     store(&mut images[at..end], next);
-    let outcome = a.outcome;
-    ClassAnswer {
-        outcome: ClassOutcome::Single(outcome),
-        length: a.length,
-        read: a.read,
-        whom: Whom::Seat(seat),
-    }
+    a
 }

@@ -1,7 +1,8 @@
 // A row of modules held as bytes: their images, each directly behind the one before it.
-ghost use Rattle.std.specs.Prelude.{◌≡◌, ◌*◌, ◌≤◌, length, take};
-ghost use Rattle.image.specs.Places.{LENGTH};
-ghost use Rattle.embed_class.specs.Row.{is_row, row_of, names_of};
+ghost use Rattle.std.specs.Prelude.{◌≡◌, ◌≤◌, length, take, map};
+ghost use Rattle.std.specs.List.{list_all};
+ghost use Rattle.image.specs.Image.{is_image, module_of};
+ghost use Rattle.embed_class.specs.Row.{is_row, address_in};
 
 use image::held::is_image;
 use image::places::{HIGH, LENGTH, LOW, MIDDLE};
@@ -11,29 +12,26 @@ use wire::address::Address;
 pub(crate) fn is_row(images: &[u8], count: usize) -> bool
     ensures { result ≡ is_row count images.now }
 {
-    if images.len() % LENGTH != 0 {
+    let (each, rest) = images.as_chunks::<LENGTH>();
+    if rest.len() != 0 {
         return false;
     }
-    if images.len() / LENGTH != count {
+    if each.len() != count {
         return false;
     }
-    let mut i: usize = 0;
-    while i < count {
-        let at = i * LENGTH;
-        let end = at + LENGTH;
-        if !is_image(&images[at..end]) {
-            return false;
-        }
-        i += 1;
-    }
-    true
+    are_images(each)
+}
+
+fn are_images(each: &[[u8; LENGTH]]) -> bool
+    ensures { result ≡ list_all (λ image. is_image image) each.now }
+{
+    each.iter().all(|image| is_image(image))
 }
 
 // The addresses of the modules, in the first places.
-pub(crate) fn names_of(images: &[u8], count: usize) -> [Address; 16]
-    requires images_len { length images.now ≡ count * LENGTH }
-    requires count_bound { count ≤ 16 }
-    ensures { take count result ≡ names_of (row_of count images.now) }
+pub(crate) fn names_of(each: &[[u8; LENGTH]]) -> [Address; 16]
+    requires { length each.now ≤ 16 }
+    ensures { take (length each.now) result ≡ map address_in each.now }
 {
     let blank = Address {
         high: 0,
@@ -41,16 +39,18 @@ pub(crate) fn names_of(images: &[u8], count: usize) -> [Address; 16]
         low: 0,
     };
     let mut names = [blank; 16];
-    let mut i: usize = 0;
-    while i < count {
-        let at = i * LENGTH;
-        let a = Address {
-            high: images[at + HIGH],
-            middle: images[at + MIDDLE],
-            low: images[at + LOW],
-        };
-        names[i] = a;
-        i += 1;
+    for (i, image) in each.iter().enumerate() {
+        names[i] = address_in(image);
     }
     names
+}
+
+fn address_in(image: &[u8; LENGTH]) -> Address
+    ensures { result ≡ address_in image.now }
+{
+    Address {
+        high: image[HIGH],
+        middle: image[MIDDLE],
+        low: image[LOW],
+    }
 }

@@ -1,6 +1,7 @@
 -- What an image holds, and what a module that is stored leaves of it.
 use Prim.Native.Nat.{ℕ}
-use mathlib.Core.Path.{◌≡◌, refl, sym, ◌∙◌, ap}
+use mathlib.Core.Path.{◌≡◌, refl, sym, ◌∙◌, ap, subst}
+use Rattle.std.specs.Prelude.{Option, None, Some}
 use mathlib.Core.Bool.{Bool, true, false}
 use mathlib.Core.List.{List}
 use native.Mathlib.Omega.{arith}
@@ -17,7 +18,6 @@ use Rattle.load.specs.declared.state.Load.{Load}
 use Rattle.module.specs.declared.state.Module.{Module}
 use Rattle.module.specs.Module.{kind_of}
 use Rattle.module.specs.Change.{with_load}
-use Rattle.image.specs.declared.held.Held.{Held}
 use Rattle.image.specs.Places.{LENGTH, KIND, LEVEL, RAMP, ON_LEVEL, TOP, BOTTOM}
 use Rattle.image.specs.Image.{is_socket, kinds, is_image, is_on, load_of, module_of, held_in}
 use Rattle.image.specs.Image.{byte_of, load_values, values, stored_in, stored_if_own}
@@ -175,11 +175,30 @@ pub own : (s : List ℕ) (m : Module) → is_image s ≡ true → kind_of m.load
 unfolding stored_if_own choose
 own s m h k = rw (h, eq-eqb (kind_of m.load) (get_or s KIND 0) k)
 
--- what is held tells whether it is an image, and where it is, whose
-pub whether : (s : List ℕ) (h : Held) → h ≡ held_in s → h.is_one ≡ is_image s
-unfolding held_in
-whether s h e = ap (λ (x : Held). x.is_one) e
+-- whoever is held is the module of an image
+pub record Its (s : List ℕ) (m : Module) : Type 0 where
+  pub one : is_image s ≡ true
+  pub whose : m ≡ module_of s
 
-pub held_there : (s : List ℕ) (h : Held) → h ≡ held_in s → is_image s ≡ true → h.«module» ≡ module_of s
-unfolding held_in choose
-held_there s h e one = ap (λ (x : Held). x.«module») e ∙ rw one
+module _ (s : List ℕ) where
+  abbrev Told : Option Module → Type 0
+  Told None = is_image s ≡ false
+  Told (Some m) = Its s m
+
+  told : Told (held_in s)
+  unfolding held_in choose
+  told = go (is_image s) refl
+    where
+      go : (b : Bool) → is_image s ≡ b → Told (choose b (Some (module_of s)) None)
+      go true e = record { one = e; whose = refl }
+      go false e = e
+
+  pub is_held : (m : Module) → Some m ≡ held_in s → Its s m
+  is_held m e = subst Told (sym e) told
+
+  pub unheld : (r : Option Module) → r ≡ held_in s → ((m : Module) → r ≡ Some m → ⊥) → is_image s ≡ false
+  unheld r e none = go r none (subst Told (sym e) told)
+    where
+      go : (r : Option Module) → ((m : Module) → r ≡ Some m → ⊥) → Told r → is_image s ≡ false
+      go None none e = e
+      go (Some m) none e = absurd (none m refl)

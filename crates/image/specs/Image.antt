@@ -1,11 +1,10 @@
 -- A module as bytes: every kind has an image of one length, and each value its place.
-use Rattle.std.specs.Prelude.{ℕ, Bool, true, false, ◌&&◌, List, [], ◌∷◌, eqb, leb, length, get_or, set}
+use Rattle.std.specs.Prelude.{ℕ, Option, None, Some, Bool, true, false, ◌&&◌, List, [], ◌∷◌, eqb, leb, length, get_or, set}
 use Rattle.basis.specs.Choice.{choose}
 use Rattle.basis.specs.Table.{Row, among, ◌⇒◌}
 use Rattle.load.specs.declared.state.Load.{Load}
 use Rattle.module.specs.declared.state.Module.{Module}
-use Rattle.module.specs.Module.{kind_of, fresh_outlet}
-use Rattle.image.specs.declared.held.Held.{Held}
+use Rattle.module.specs.Module.{kind_of}
 use Rattle.image.specs.Places.{LENGTH, KIND, HIGH, MIDDLE, LOW, CATEGORY, SUBCATEGORY, FIRMWARE, REVISION}
 use Rattle.image.specs.Places.{FLAGS, LED, HOUSE, UNIT, DELTA, LEVEL, RAMP, ON_LEVEL, TOP, BOTTOM}
 
@@ -51,13 +50,9 @@ module_of s =
       load = load_of s;
     }
 
--- who is held where there is no image
-abbrev pub nobody : Module
-nobody =
-    fresh_outlet (record { address = record { high = 0; middle = 0; low = 0 }; category = 0; subcategory = 0; firmware = 0; revision = 0 })
-
-unfoldable pub held_in : List ℕ → Held
-held_in s = record { is_one = is_image s; «module» = choose (is_image s) (module_of s) nobody }
+-- none where it is no image
+unfoldable pub held_in : List ℕ → Option Module
+held_in s = choose (is_image s) (Some (module_of s)) None
 
 -- ---- what is stored in it
 

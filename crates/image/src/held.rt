@@ -1,67 +1,39 @@
 // The module that an image holds.
-ghost use Rattle.std.specs.Prelude.{◌≡◌, false, length, get_or};
+ghost use Rattle.std.specs.Prelude.{◌≡◌, false, get_or};
 ghost use Rattle.basis.specs.Table.{among};
-ghost use Rattle.image.specs.Places.{LENGTH, KIND};
-ghost use Rattle.image.specs.Image.{kinds, is_image, load_of, module_of, nobody, held_in};
+ghost use Rattle.image.specs.Places.{KIND};
+ghost use Rattle.image.specs.Image.{kinds, is_image, load_of, module_of, held_in};
 
 use crate::places;
+use crate::places::LENGTH;
 use load::state::{Lamp, Load, Sockets};
 use module::state::{Identity, Module};
 use wire::address::Address;
 
-// Whether it is an image, and the module that it holds; where it is none, nobody.
-#[derive(Clone, Copy)]
-pub struct Held {
-    pub is_one: bool,
-    pub module: Module,
-}
-
-pub fn held_in(image: &[u8]) -> Held
+// None where it is no image.
+pub fn held_in(image: &[u8]) -> Option<Module>
     ensures { result ≡ held_in image.now }
 {
-    if !is_image(image) {
-        let blank = nobody();
-        return Held {
-            is_one: false,
-            module: blank,
-        };
+    let bytes = image.as_array::<LENGTH>()?;
+    if is_kind(bytes) {
+        Some(module_of(bytes))
+    } else {
+        None
     }
-    let m = module_of(image);
-    Held {
-        is_one: true,
-        module: m,
-    }
-}
-
-fn nobody() -> Module
-    ensures { result ≡ nobody }
-{
-    Module::fresh_outlet(Identity {
-        address: Address {
-            high: 0,
-            middle: 0,
-            low: 0,
-        },
-        category: 0,
-        subcategory: 0,
-        firmware: 0,
-        revision: 0,
-    })
 }
 
 // Whether it has the length of images, is of a kind that there is, and can be that kind's.
 pub fn is_image(image: &[u8]) -> bool
     ensures { result ≡ is_image image.now }
 {
-    if image.len() != places::LENGTH {
+    let Some(bytes) = image.as_array::<LENGTH>() else {
         return false;
-    }
-    is_kind(image)
+    };
+    is_kind(bytes)
 }
 
 // Any byte can be a dimmer's; a socket is 00 or 01.
-fn is_kind(image: &[u8]) -> bool
-    requires { length image.now ≡ LENGTH }
+pub(crate) fn is_kind(image: &[u8; LENGTH]) -> bool
     ensures { result ≡ among (get_or image.now KIND 0) false (kinds image.now) }
 {
     let kind = image[places::KIND];
@@ -72,8 +44,7 @@ fn is_kind(image: &[u8]) -> bool
     }
 }
 
-fn module_of(image: &[u8]) -> Module
-    requires { length image.now ≡ LENGTH }
+fn module_of(image: &[u8; LENGTH]) -> Module
     ensures { result ≡ module_of image.now }
 {
     Module {
@@ -87,8 +58,7 @@ fn module_of(image: &[u8]) -> Module
     }
 }
 
-fn identity_of(image: &[u8]) -> Identity
-    requires { length image.now ≡ LENGTH }
+fn identity_of(image: &[u8; LENGTH]) -> Identity
     ensures { result ≡ (module_of image.now).identity }
 {
     Identity {
@@ -105,8 +75,7 @@ fn identity_of(image: &[u8]) -> Identity
 }
 
 // What is no outlet is a dimmer, as an image is of one of the two.
-fn load_of(image: &[u8]) -> Load
-    requires { length image.now ≡ LENGTH }
+fn load_of(image: &[u8; LENGTH]) -> Load
     ensures { result ≡ load_of image.now }
 {
     let kind = image[places::KIND];

@@ -1,11 +1,11 @@
 // What a message may alter goes back into its places; every other byte stays.
-ghost use Rattle.std.specs.Prelude.{◌≡◌, length};
+ghost use Rattle.std.specs.Prelude.{◌≡◌};
 ghost use Rattle.module.specs.Module.{kind_of};
-ghost use Rattle.image.specs.Places.{LENGTH};
 ghost use Rattle.image.specs.Image.{byte_of, load_values, with_values, stored_in, stored_if_own};
 
-use crate::held::is_image;
+use crate::held::is_kind;
 use crate::places;
+use crate::places::LENGTH;
 use load::state::{Lamp, Load, Sockets};
 use module::state::Module;
 
@@ -13,14 +13,14 @@ use module::state::Module;
 pub fn store(image: &mut [u8], m: Module)
     ensures { image.new ≡ stored_if_own image.old m }
 {
-    if !is_image(image) {
+    let Some(bytes) = image.as_mut_array::<LENGTH>() else {
         return;
-    }
+    };
     let load = m.load;
-    if kind_of(load) != image[places::KIND] {
-        return;
+    let is_own = kind_of(load) == bytes[places::KIND];
+    if is_kind(bytes) & is_own {
+        store_values(bytes, m);
     }
-    store_values(image, m);
 }
 
 fn kind_of(load: Load) -> u8
@@ -32,8 +32,7 @@ fn kind_of(load: Load) -> u8
     }
 }
 
-fn store_values(image: &mut [u8], m: Module)
-    requires { length image.old ≡ LENGTH }
+fn store_values(image: &mut [u8; LENGTH], m: Module)
     ensures { image.new ≡ stored_in image.old m }
 {
     image[places::FLAGS] = m.flags;
@@ -45,8 +44,7 @@ fn store_values(image: &mut [u8], m: Module)
     store_load(image, load);
 }
 
-fn store_load(image: &mut [u8], load: Load)
-    requires { length image.old ≡ LENGTH }
+fn store_load(image: &mut [u8; LENGTH], load: Load)
     ensures { image.new ≡ with_values (load_values load) image.old }
 {
     match load {
@@ -55,8 +53,7 @@ fn store_load(image: &mut [u8], load: Load)
     }
 }
 
-fn store_lamp(image: &mut [u8], lamp: Lamp)
-    requires { length image.old ≡ LENGTH }
+fn store_lamp(image: &mut [u8; LENGTH], lamp: Lamp)
     ensures { image.new ≡ with_values (load_values (Load.Dimmer lamp)) image.old }
 {
     image[places::LEVEL] = lamp.level;
@@ -64,8 +61,7 @@ fn store_lamp(image: &mut [u8], lamp: Lamp)
     image[places::ON_LEVEL] = lamp.on_level;
 }
 
-fn store_sockets(image: &mut [u8], sockets: Sockets)
-    requires { length image.old ≡ LENGTH }
+fn store_sockets(image: &mut [u8; LENGTH], sockets: Sockets)
     ensures { image.new ≡ with_values (load_values (Load.Outlet sockets)) image.old }
 {
     image[places::TOP] = byte_of(sockets.top);

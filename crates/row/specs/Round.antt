@@ -14,14 +14,8 @@ use Rattle.row.specs.declared.progress.Round.{Round}
 use Rattle.row.specs.declared.progress.Scope.{Scope}
 use Rattle.row.specs.declared.progress.Task.{Task}
 use Rattle.row.specs.declared.progress.Progress.{Progress}
+use Rattle.row.specs.Answer.{silent_for, silent}
 use Rattle.row.specs.Row.{is_row_fit, seat_named, is_doubled}
-
--- nothing sent and no record read, for somebody and for nobody
-abbrev pub silent_for : Whom → ClassOutcome → ClassAnswer
-silent_for whom outcome = record { outcome = outcome; length = 0; read = 0; whom = whom }
-
-abbrev pub silent : ClassOutcome → ClassAnswer
-silent outcome = silent_for Whom.Nobody outcome
 
 -- no turn is left
 abbrev pub ended : Progress → ClassAnswer → Progress

@@ -1,26 +1,16 @@
-// The addresses of the seats, as far as they are noted.
-ghost use Rattle.std.specs.Prelude.{◌≡◌, ◌≤◌, ◌<◌};
+// The addresses of the seats.
+ghost use Rattle.std.specs.Prelude.{◌≡◌, length, position};
 ghost use Rattle.wire.specs.Bytes.{equals};
-ghost use Rattle.row.specs.Row.{seat_named, is_doubled};
+ghost use Rattle.row.specs.Row.{is_doubled};
 ghost use Rattle.row.specs.Round.{name_in};
 
 use wire::address::Address;
 
-// Of the first n seats the first with that address; n where there is none.
-pub(crate) fn seat_named(names: [Address; 16], n: usize, a: Address) -> usize
-    requires { n ≤ 16 }
-    ensures { result ≡ seat_named (name_in names) n a }
+// The first seat with that address.
+pub(crate) fn seat_named(names: &[Address], a: Address) -> Option<usize>
+    ensures { result ≡ position (λ b. equals a b) names.now }
 {
-    let mut i: usize = 0;
-    loop {
-        if i == n {
-            break n;
-        }
-        if is_same(a, names[i]) {
-            break i;
-        }
-        i += 1;
-    }
+    names.iter().position(|b| is_same(a, *b))
 }
 
 // The low byte is asked first: it tells most addresses apart.
@@ -33,32 +23,17 @@ fn is_same(a: Address, b: Address) -> bool
     a == b
 }
 
-// Two of the first n seats have one address: result 9. Addresses are compared only where their low byte was met before.
-pub(crate) fn is_doubled(names: [Address; 16], n: usize) -> bool
-    requires { n ≤ 16 }
-    ensures { result ≡ is_doubled (name_in names) n }
+// Two of the seats have one address: result 9. Addresses are compared only where their low byte was met before.
+pub(crate) fn is_doubled(names: &[Address]) -> bool
+    ensures { result ≡ is_doubled (name_in names.now) (length names.now) }
 {
     let mut met = [false; 256];
-    let mut i: usize = 0;
-    loop {
-        if i == n {
-            break false;
+    for (i, a) in names.iter().enumerate() {
+        let low = usize::from(a.low);
+        if met[low] && seat_named(&names[..i], *a).is_some() {
+            return true;
         }
-        let low = wide(names[i].low);
-        if !met[low] {
-            met[low] = true;
-            i += 1;
-            continue;
-        }
-        if seat_named(names, i, names[i]) < i {
-            break true;
-        }
-        i += 1;
+        met[low] = true;
     }
-}
-
-fn wide(x: u8) -> usize
-    ensures { (result ≡ x) × (result < 256) }
-{
-    x as usize
+    false
 }

@@ -1,8 +1,8 @@
 // What became of a message to the class: a module's own outcome, or one of the row's.
 ghost use Rattle.std.specs.Prelude.{◌≡◌};
-ghost use Rattle.row.specs.Number.{class_number_of};
+ghost use Rattle.row.specs.Answer.{joined};
 
-use results::{Outcome, number};
+use results::Outcome;
 
 #[derive(Clone, Copy)]
 pub enum ClassOutcome {
@@ -12,14 +12,31 @@ pub enum ClassOutcome {
     Unfit,
 }
 
+impl ClassOutcome {
+    // Done where any seat acted.
+    pub fn joined(self, own: Outcome) -> ClassOutcome
+        ensures { result ≡ joined self own }
+    {
+        match own {
+            Outcome::Done => ClassOutcome::Single(Outcome::Done),
+            _ => self,
+        }
+    }
+}
+
 // The paper's number.
-pub fn class_number(outcome: ClassOutcome) -> u8
-    ensures { result ≡ class_number_of outcome }
-{
-    match outcome {
-        ClassOutcome::Single(single) => number(single),
-        ClassOutcome::Doubled => 9,
-        ClassOutcome::NoSeat => 10,
-        ClassOutcome::Unfit => 11,
+impl From<ClassOutcome> for u8 {
+    ghost use Rattle.std.specs.Prelude.{◌≡◌};
+    ghost use Rattle.row.specs.Number.{class_number_of};
+
+    ghost from_gives = { λ outcome number. number ≡ class_number_of outcome };
+
+    fn from(outcome: ClassOutcome) -> u8 {
+        match outcome {
+            ClassOutcome::Single(single) => u8::from(single),
+            ClassOutcome::Doubled => 9,
+            ClassOutcome::NoSeat => 10,
+            ClassOutcome::Unfit => 11,
+        }
     }
 }

@@ -1,9 +1,11 @@
 // Where the row stands with a message. Nobody may be served before all addresses are known, so that a row is walked in rounds: in the
 // first the addresses are noted, in the second seats are served.
 ghost use Rattle.std.specs.Prelude.{◌≡◌};
-ghost use Rattle.row.specs.Round.{silent, ended};
+ghost use Rattle.row.specs.Answer.{silent, of_seat, and_seat};
+ghost use Rattle.row.specs.Round.{ended};
 
 use crate::outcome::ClassOutcome;
+use results::Outcome;
 use wire::address::Address;
 
 // Whom a message was for, as far as it was served.
@@ -22,6 +24,33 @@ pub struct ClassAnswer {
     pub length: usize,
     pub read: usize,
     pub whom: Whom,
+}
+
+impl ClassAnswer {
+    // What one seat alone answers is the answer.
+    pub fn of_seat(seat: usize, outcome: Outcome, length: usize, read: usize) -> ClassAnswer
+        ensures { result ≡ of_seat seat outcome length read }
+    {
+        ClassAnswer {
+            outcome: ClassOutcome::Single(outcome),
+            length: length,
+            read: read,
+            whom: Whom::Seat(seat),
+        }
+    }
+
+    // A broadcast, with what one seat more comes to, and the records that all of them read. Nothing is sent.
+    pub fn and_seat(self, outcome: Outcome, read: usize) -> ClassAnswer
+        ensures { result ≡ and_seat self outcome read }
+    {
+        let so_far = self.outcome;
+        ClassAnswer {
+            outcome: so_far.joined(outcome),
+            length: 0,
+            read: read,
+            ..self
+        }
+    }
 }
 
 // What a seat's turn is for.

@@ -1,6 +1,6 @@
 // After the first round all addresses are known: refusals 9, 1, 3 and 10, in this order, or who is to be served.
 ghost use Rattle.std.specs.Prelude.{◌≡◌, ◌≤◌};
-ghost use Rattle.row.specs.Round.{second_round, addressed, by_scope, settled, noticed, settled_if_few};
+ghost use Rattle.row.specs.Round.{second_round, settled, noticed, settled_if_few};
 
 use crate::names::{is_doubled, seat_named};
 use crate::open::open;
@@ -40,37 +40,19 @@ fn settled(t: Progress) -> Progress
     ensures { result ≡ settled t }
 {
     let names = t.names;
-    if is_doubled(names, t.task.seats) {
+    let seated = &names[..t.task.seats];
+    if is_doubled(seated) {
         return ended(t, silent(ClassOutcome::Doubled));
     }
-    let task = t.task;
-    let scope = task.scope;
-    by_scope(t, scope)
-}
-
-fn by_scope(t: Progress, scope: Scope) -> Progress
-    requires { t.task.seats ≤ 16 }
-    ensures { result ≡ by_scope t scope }
-{
-    match scope {
+    match t.task.scope {
         Scope::Ill => ended(t, silent(ClassOutcome::Single(Outcome::BadLength))),
         Scope::Unheard => ended(t, silent(ClassOutcome::Single(Outcome::Foreign))),
-        Scope::One => addressed(t),
+        Scope::One => match seat_named(seated, t.task.to) {
+            Some(seat) => second_round(t, seat, Round::One, Whom::Seat(seat)),
+            None => ended(t, silent(ClassOutcome::NoSeat)),
+        },
         Scope::All => second_round(t, 0, Round::All, Whom::All),
     }
-}
-
-// The seat that a message is for.
-fn addressed(t: Progress) -> Progress
-    requires { t.task.seats ≤ 16 }
-    ensures { result ≡ addressed t }
-{
-    let names = t.names;
-    let seat = seat_named(names, t.task.seats, t.task.to);
-    if seat < t.task.seats {
-        return second_round(t, seat, Round::One, Whom::Seat(seat));
-    }
-    ended(t, silent(ClassOutcome::NoSeat))
 }
 
 // Nobody has acted yet.

@@ -20,10 +20,10 @@ pub returns-then-count-gt16 : goal.returns-then-count-gt16
 returns-then-count-gt16 c =
     let g = c.args in
     crowd g.images.now g.count g.links.now g.message.now g.room.now g.report.now (sym c.is_row.ensures ∙ c.if-not-is_row.false) c.if-report-lt2.false
-    (omega arith) _ _ c.tell.ensures c.class_number.ensures
+    (omega arith) _ _ c.tell.ensures (c.from-then-count-gt16.ensures ∙ c.from.ensures)
 
 pub returns : goal.returns
 returns c =
     let g = c.args in
     served g.images.now g.count g.links.now g.message.now g.room.now g.report.now (sym c.is_row.ensures ∙ c.if-not-is_row.false) c.if-report-lt2.false
-    c.serve_row-answer.result _ _ _ _ _ c.serve_row-answer.ensures c.tell-2.ensures c.class_number-2.ensures
+    c.serve_row-answer.result _ _ _ _ _ c.serve_row-answer.ensures c.tell-2.ensures (c.from-3.ensures ∙ c.from-2.ensures)

@@ -10,6 +10,3 @@ abbrev pub invariant-loop-seat : goal.invariant-loop-seat
 invariant-loop-seat l =
     Standing (class_of (row_of l.count l.initial.images) l.initial.links l.message l.initial.room) l.heard (length l.initial.links) l.count l.t l.initial.images
     l.images l.links l.room l.seat l.answer
-
-abbrev pub decreases-loop-seat : goal.decreases-loop-seat
-decreases-loop-seat l = l.count - l.seat

@@ -1,12 +1,15 @@
+use mathlib.Core.Path.{refl}
 use borrow.Author.Tests.{eq-eqb, ne_eqb}
 use Rattle.image.specs.Places.{LENGTH}
 use Rattle.image.specs.Image.{is_image}
 use Rattle.image.proofs.held.is_image.Goals as goal
 
-pub returns-then-image-ne-LENGTH : goal.returns-then-image-ne-LENGTH
+pub returns-in_default : goal.returns-in_default
 unfolding is_image
-returns-then-image-ne-LENGTH c = rw (ne_eqb _ LENGTH c.if-image-ne-LENGTH.true)
+returns-in_default c = rw (ne_eqb _ LENGTH c.in_default.ensures.cases)
 
 pub returns : goal.returns
 unfolding is_image
-returns c = rw (eq-eqb _ LENGTH c.if-image-ne-LENGTH.false) c.is_kind.ensures
+returns c =
+    let whole = c.in-Some.ensures.cases in
+    rw (eq-eqb _ LENGTH whole.long) (rw whole.same at c.is_kind.ensures)

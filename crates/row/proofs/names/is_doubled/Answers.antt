@@ -8,6 +8,7 @@ use lib.Dec.{eqb}
 use lib.ListN.{length, get_or, set, length-set}
 use lib.Seq.{get_or-set_same, get_or-set_other}
 use borrow.Author.Tests.{lt-ltb, le-ltb, eqb-true, eqb-false}
+use Rattle.std.specs.Prelude.{is_some}
 use Rattle.basis.specs.First.{first, first_from}
 use Rattle.basis.proofs.First.{none, here, later}
 use Rattle.basis.proofs.Tests.{clash}
@@ -15,8 +16,10 @@ use Rattle.wire.specs.declared.address.Address.{Address}
 use Rattle.row.specs.Row.{is_taken}
 use Rattle.row.specs.Round.{name_in}
 use Rattle.row.proofs.Named.{not_taken}
+use Rattle.row.proofs.Position.{whether}
 use Rattle.row.proofs.names.is_doubled.Invariants.{Marked}
 use Rattle.row.proofs.names.is_doubled.Goals as goal
+use Rattle.row.proofs.names.is_doubled.Goals.{else-met-low-via-then-met-low+else-is_some, else-met-low-via-else-met-low}
 
 -- one seat further, where seat i is free
 further : (P : ℕ → Bool) (n i : ℕ) → i < n → P i ≡ false → first_from P (n - i) i ≡ first P n → first_from P (n - (i + 1)) (i + 1) ≡ first P n
@@ -42,48 +45,37 @@ module _ (name : ℕ → Address) (met : List Bool) (i : ℕ) (marked : Marked n
   marks : low < length met → Marked name (set met low true) (i + 1)
   marks inside = one_more (set met low true) (get_or-set_same met low true false inside) (λ k h. get_or-set_other met low k true false h)
 
-  stays : get_or met low false ≡ true → Marked name met (i + 1)
-  stays e = one_more met e (λ k h. refl)
-
--- a low byte that was not met
-
-pub loop-i-preserved-then-not-met-low : goal.loop-i-preserved-then-not-met-low
-loop-i-preserved-then-not-met-low c =
-    let g = c.args in
+pub returns-then-is_some : goal.returns-then-is_some
+returns-then-is_some c =
     let l = c.loop-i in
-    let low = c.wide-low in
-    let name = name_in g.names in
-    let free = not_met name l.met l.i l.invariant.3 low.result low.ensures.0 (c.if-not-met-low.true) in
-    let left = further (is_taken name) g.n l.i (omega arith) free l.invariant.1 in
-    let marked = marks name l.met l.i l.invariant.3 low.result low.ensures.0 (rw l.invariant.2 low.ensures.1) in
-    (omega arith, left, length-set l.met low.result true ∙ l.invariant.2, marked)
-
--- one that was, of another address
+    let names = c.args.names.now in
+    let name = name_in names in
+    let taken : is_taken name l.i ≡ true = sym (c.is_some.ensures ∙ ap is_some c.seat_named.ensures ∙ whether names _ l.i (omega arith) refl (name l.i)) ∙ c.if-is_some.true in
+    let stop : l.i ≡ first (is_taken name) (length names) = sym (here (is_taken name) _ l.i (omega arith) taken) ∙ l.invariant.0 in
+    sym (lt-ltb _ (length names) (rw (← stop) (omega arith)))
 
 pub loop-i-preserved : goal.loop-i-preserved
 loop-i-preserved c =
-    let g = c.args in
     let l = c.loop-i in
-    let low = c.wide-low in
-    let name = name_in g.names in
-    let free : is_taken name l.i ≡ false = le-ltb _ l.i (rw (← c.seat_named.ensures) c.if-seat_named-i.false) in
-    let left = further (is_taken name) g.n l.i (omega arith) free l.invariant.1 in
-    let met = c.if-not-met-low.false in
-    (omega arith, left, l.invariant.2, stays name l.met l.i l.invariant.3 low.result low.ensures.0 met)
+    let low = c.from-low in
+    let names = c.args.names.now in
+    let name = name_in names in
+    let n = length names in
+    let marked = marks name l.met l.i l.invariant.2 low.result low.ensures (omega arith) in
+    elim c.else-met-low.branch [
+      | else-met-low-via-then-met-low+else-is_some w ↦
+          let free : is_taken name l.i ≡ false = sym (w.is_some.ensures ∙ ap is_some w.seat_named.ensures ∙ whether names _ l.i (omega arith) refl (name l.i)) ∙ w.if-is_some.false in
+          (further (is_taken name) n l.i (omega arith) free l.invariant.0, length-set l.met low.result true ∙ l.invariant.1, marked)
+      | else-met-low-via-else-met-low w ↦
+          let free = not_met name l.met l.i l.invariant.2 low.result low.ensures w.if-met-low.false in
+          (further (is_taken name) n l.i (omega arith) free l.invariant.0, length-set l.met low.result true ∙ l.invariant.1, marked)
+    ]
 
-pub returns-then-i-n : goal.returns-then-i-n
-returns-then-i-n c =
-    let g = c.args in
+pub returns : goal.returns
+returns c =
+    let names = c.args.names.now in
+    let n = length names in
     let i = c.loop-i.i in
-    let p : g.n - i ≡ 0 = omega arith in
-    let stop : i ≡ first (is_taken (name_in g.names)) g.n = sym (none (is_taken (name_in g.names)) i) ∙ rw p at c.loop-i.invariant.1 in
-    sym (le-ltb _ g.n (rw (← stop) (omega arith)))
-
-pub returns-then-seat_named-i : goal.returns-then-seat_named-i
-returns-then-seat_named-i c =
-    let g = c.args in
-    let l = c.loop-i in
-    let name = name_in g.names in
-    let taken : is_taken name l.i ≡ true = lt-ltb _ l.i (rw (← c.seat_named.ensures) c.if-seat_named-i.true) in
-    let stop : l.i ≡ first (is_taken name) g.n = sym (here (is_taken name) _ l.i (omega arith) taken) ∙ l.invariant.1 in
-    sym (lt-ltb _ g.n (rw (← stop) (omega arith)))
+    let p : n - i ≡ 0 = omega arith in
+    let stop : i ≡ first (is_taken (name_in names)) n = sym (none (is_taken (name_in names)) i) ∙ rw p at c.loop-i.invariant.0 in
+    sym (le-ltb _ n (rw (← stop) (omega arith)))

@@ -1,5 +1,5 @@
 -- The first seat whose address is taken, of those that are left, is the first of all. A seat whose low byte is not marked is not taken.
-use Prim.Native.Nat.{ℕ, ◌≤◌, ◌<◌, ◌-◌}
+use Prim.Native.Nat.{ℕ, ◌<◌, ◌-◌}
 use mathlib.Core.Path.{◌≡◌}
 use mathlib.Core.Bool.{Bool, true, false}
 use mathlib.Core.List.{List}
@@ -17,10 +17,6 @@ Marked name met i = (j : ℕ) → j < i → get_or met (name j).low false ≡ tr
 
 abbrev pub invariant-loop-i : goal.invariant-loop-i
 invariant-loop-i l =
-    (l.i ≤ l.n)
-    × (first_from (is_taken (name_in l.names)) (l.n - l.i) l.i ≡ first (is_taken (name_in l.names)) l.n)
+    (first_from (is_taken (name_in l.names)) (length l.names - l.i) l.i ≡ first (is_taken (name_in l.names)) (length l.names))
     × (length l.met ≡ 256)
     × Marked (name_in l.names) l.met l.i
-
-abbrev pub decreases-loop-i : goal.decreases-loop-i
-decreases-loop-i l = l.n - l.i

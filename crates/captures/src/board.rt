@@ -62,6 +62,7 @@ impl State {
         }
     }
 
+    // By hand: the clone of an ArrayVec has an allocation's error in its type, though none can come.
     fn copy_from(&mut self, other: &State) {
         self.module = other.module;
         self.links.clear();
@@ -77,7 +78,8 @@ pub(crate) struct Board {
     // the module before the last message
     pub before: Image,
     pub room: [u8; 5897],
-    // How much of the room is lent to a message, which leaves the rest as it is. Where it is more than there is, nothing is heard.
+    // How much of the room is lent to a message. The rest counts too, since it has to stay as it is, and where this is more than there
+    // is, nothing is heard: so it is no length of the room.
     lent: usize,
     pub result: u64,
     pub report: [u64; 2],

@@ -36,7 +36,7 @@ fn write_bytes<W: fmt::Write>(f: &mut fmt::Formatter<W>, came: &[u8]) -> fmt::Re
     Ok(())
 }
 
-pub(crate) fn compare<'a>(board: &'a Board, line: &[u8]) -> Result<(), Mismatch<'a>> {
+pub(crate) fn compare_line<'a>(board: &'a Board, line: &[u8]) -> Result<(), Mismatch<'a>> {
     let [length, read] = board.report;
     match line {
         [b't', ..] => compare_module(board, line),

@@ -13,8 +13,6 @@
 // The names are flags, led, house, unit and delta; level, ramp and on-level of a dimmer; top and bottom, 01 on or 00 off, of an outlet.
 #![tactic(auto)]
 
-ghost use Rattle.io.specs.Counts.{IsPrefixLen};
-
 mod board;
 mod compare;
 mod tally;
@@ -22,30 +20,28 @@ mod text;
 mod values;
 
 use board::{Board, Kind};
-use compare::compare;
+use compare::compare_line;
 use std::io::Read;
 use tally::Tally;
 use text::goes_on;
 
 fn main(rt: HostRuntime) {
-    let mut text = [0; 131072];
-    let n = read_full(rt, &mut text);
-    run(rt, &text[..n]);
+    let mut room = [0; 131072];
+    run(rt, read_full(rt, &mut room));
 }
 
 // Standard input, as far as there is room, and as far as it can be read.
-fn read_full(rt: HostRuntime, text: &mut [u8]) -> usize
-    ensures { IsPrefixLen result text.new }
-{
+// The loop stays a `while`: each read says how far it came, and one that fails ends the text and loses none of it.
+fn read_full(rt: HostRuntime, room: &mut [u8]) -> &[u8] {
     let mut n: usize = 0;
-    while n < text.len() {
-        match rt.stdin().read(&mut text[n..]) {
+    while n < room.len() {
+        match rt.stdin().read(&mut room[n..]) {
             Ok(0) => break,
             Ok(more) => n += more,
             Err(_) => break,
         }
     }
-    n
+    &room[..n]
 }
 
 fn run(rt: HostRuntime, text: &[u8]) {
@@ -77,6 +73,6 @@ fn take(rt: HostRuntime, board: &mut Board, tally: &mut Tally, line: &[u8]) {
         }
         [b'r', ..] => board.set_room(line),
         [b'h', ..] => board.hear(line),
-        _ => tally.count(rt, line, compare(board, line)),
+        _ => tally.count(rt, line, compare_line(board, line)),
     }
 }

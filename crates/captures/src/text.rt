@@ -5,7 +5,7 @@ ghost use Rattle.std.specs.Iterator.{at_most};
 use arrayvec::ArrayVec;
 
 // What a line spells for a byte: two capital digits, or `..` for any.
-#[derive(Clone, Copy, PartialEq, Eq)]
+#[derive(Clone, Copy)]
 pub(crate) enum Spelled {
     Any,
     Byte(u8),
@@ -80,14 +80,12 @@ pub(crate) fn bytes_in<const N: usize>(line: &[u8]) -> ArrayVec<u8, N> {
 
 // The byte that a word is, with the space or the line's end behind it.
 pub(crate) fn byte_of(word: &[u8]) -> Option<u8> {
-    let spelled = match word {
-        [a, b] => pair(*a, *b),
-        [a, b, _] => pair(*a, *b),
-        _ => None,
+    let ([a, b] | [a, b, _]) = word else {
+        return None;
     };
-    match spelled {
-        Some(Spelled::Byte(byte)) => Some(byte),
-        _ => None,
+    match pair(*a, *b)? {
+        Spelled::Any => None,
+        Spelled::Byte(byte) => Some(byte),
     }
 }
 

@@ -48,25 +48,27 @@ fn walk(links: &[u8], wanted: Wanted) -> Searched
     ensures { result ≡ walk_of links.now wanted }
 {
     let n = links.len() / 8;
-    for i in 0..n {
-        let record = record_at(links, i);
-        if is_end_mark(record) {
-            return Searched {
-                read: i + 1,
-                found: Err(Missing::EndMark),
-            };
+    'walk: {
+        for i in 0..n {
+            let record = record_at(links, i);
+            if is_end_mark(record) {
+                break 'walk Searched {
+                    read: i + 1,
+                    found: Err(Missing::EndMark),
+                };
+            }
+            if matches(record, wanted) {
+                let link = link_of(record);
+                break 'walk Searched {
+                    read: i + 1,
+                    found: Ok(link),
+                };
+            }
         }
-        if matches(record, wanted) {
-            let link = link_of(record);
-            return Searched {
-                read: i + 1,
-                found: Ok(link),
-            };
+        Searched {
+            read: n,
+            found: Err(Missing::MemoryEnd),
         }
-    }
-    Searched {
-        read: n,
-        found: Err(Missing::MemoryEnd),
     }
 }
 

@@ -26,8 +26,8 @@ loop-i-preserved c =
     let p : length l / 8 - (i + 1) ≡ pred (length l / 8 - i) = omega arith in
     (omega arith, rw p (sym (later (settles_at l g.wanted) _ i (omega arith) unsettled) ∙ c.loop-i.invariant.1))
 
-pub returns : goal.returns
-returns c =
+pub returns-after-loop-i : goal.returns-after-loop-i
+returns-after-loop-i c =
     let g = c.args in
     let l = g.links.now in
     let i = c.loop-i.i in

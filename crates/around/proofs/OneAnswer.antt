@@ -176,4 +176,6 @@ each_once =
       image-tell = λ _ _ _. by_value _;
       embed-dreelish-step = λ _ _ _ _ _. embedded _;
       embed-class-dreelish-class-step = λ _ _ _ _ _ _. embedded _;
+      letters-new = λ _ _ _ p q. (p.0 ∙ sym q.0, p.1 ∙ sym q.1);
+      letters-laid = λ _. by_value _;
     }

@@ -76,6 +76,8 @@ use Rattle.roster.specs.Word.{is_same, named}
 use Rattle.roster.specs.Seat.{fresh_as, fresh_at, bench_of}
 use Rattle.roster.specs.Line.{line_of}
 use Rattle.roster.specs.Roster.{roster_of}
+use Rattle.letters.specs.declared.Line as letters
+use Rattle.letters.specs.Laid.{laid_in, Begins}
 use Rattle.image.specs.declared.held.Held.{Held}
 use Rattle.image.specs.Image.{is_image, held_in, stored_if_own}
 use Rattle.image.specs.Returned.{Returned, Returns}
@@ -197,3 +199,5 @@ pub record EachOnce : Type 1 where
       → Only (λ (c : Returned). Returns (returned_of image l s room report) c.number c.image c.links c.room c.report)
   pub embed-class-dreelish-class-step : (images : List ℕ) (n : ℕ) (l s room report : List ℕ)
       → Only (λ (c : Returned). Returns (class_returned_of images n l s room report) c.number c.image c.links c.room c.report)
+  pub letters-new : (bytes : List ℕ) (x y : letters.Line) → Begins bytes x → Begins bytes y → (laid_in x ≡ laid_in y) × (x.bytes.now ≡ y.bytes.now)
+  pub letters-laid : (line : letters.Line) → Only (λ (r : List ℕ). r ≡ laid_in line)

@@ -1,7 +1,7 @@
 // Text laid behind what is laid already, in a buffer that is lent. A piece that no longer fits whole is left out.
 #![tactic(auto)]
 
-ghost use Rattle.std.specs.Prelude.{◌≡◌, ◌≤◌, [], length};
+ghost use Rattle.std.specs.Prelude.{◌≡◌, ◌≤◌, length};
 
 use std::fmt;
 
@@ -13,12 +13,11 @@ pub struct Line<'a> {
 }
 
 impl<'a> Line<'a> {
-    ghost use Rattle.letters.specs.Laid.{laid_in};
+    ghost use Rattle.letters.specs.Laid.{laid_in, Begins};
 
     // Nothing is laid yet.
     pub fn new(bytes: &'a mut [u8]) -> Line<'a>
-        ensures laid { laid_in result ≡ [] }
-        ensures bytes { result.bytes.now ≡ bytes.old }
+        ensures { Begins bytes.old result }
     {
         Line { bytes, len: 0 }
     }

@@ -25,17 +25,14 @@ impl Module {
     {
         match change {
             Change::Nothing => self,
-            Change::Flags(flags) => Module {
-                flags: flags,
-                ..self
-            },
-            Change::Led(led) => Module { led: led, ..self },
+            Change::Flags(flags) => Module { flags, ..self },
+            Change::Led(led) => Module { led, ..self },
             Change::X10(house, unit) => Module {
-                house: house,
-                unit: unit,
+                house,
+                unit,
                 ..self
             },
-            Change::Load(load) => Module { load: load, ..self },
+            Change::Load(load) => Module { load, ..self },
             Change::NextDelta => Module {
                 delta: self.delta.wrapping_add(1),
                 ..self

@@ -57,12 +57,12 @@ fn fresh(identity: Identity, load: Load) -> Module
     ensures { result ≡ fresh_with load identity }
 {
     Module {
-        identity: identity,
+        identity,
         flags: FRESH_FLAGS,
         led: FRESH_LED,
         house: FRESH_HOUSE,
         unit: FRESH_UNIT,
         delta: FRESH_DELTA,
-        load: load,
+        load,
     }
 }

@@ -24,8 +24,7 @@ pub struct Answer {
 pub fn step(m: Module, links: &mut [u8], message: &[u8], room: &mut [u8]) -> Answer
     ensures { StepPromise m links.old message.now room.old result links.new room.new }
 {
-    let identity = m.identity;
-    let heard = read(message, identity.address);
+    let heard = read(message, m.identity.address);
     serve(m, links, heard, room)
 }
 
@@ -33,21 +32,16 @@ pub fn step(m: Module, links: &mut [u8], message: &[u8], room: &mut [u8]) -> Ans
 pub fn serve(m: Module, links: &mut [u8], heard: Message, room: &mut [u8]) -> Answer
     ensures { Comes (step_by m links.old heard room.old) result links.new room.new }
 {
-    let identity = m.identity;
-    let data = heard.data;
     let ruling = ruling_by(m, links, heard);
     let decided = ruling.plan;
-    let due = decided.due;
-    let sent = send(room, identity.address, links, due);
+    let sent = send(room, m.identity.address, links, decided.due);
     let plan = if_sent(sent, decided);
-    write_planned(links, data, plan);
-    let outcome = plan.outcome;
-    let change = plan.change;
+    write_planned(links, heard.data, plan);
     Answer {
-        outcome: outcome,
+        outcome: plan.outcome,
         length: sent.unwrap_or(0),
         read: ruling.read,
-        next: m.apply(change),
+        next: m.apply(plan.change),
     }
 }
 

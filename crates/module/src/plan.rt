@@ -28,9 +28,9 @@ impl Plan {
     {
         Plan {
             outcome: Outcome::Done,
-            change: change,
+            change,
             writing: None,
-            due: due,
+            due,
         }
     }
 
@@ -42,7 +42,7 @@ impl Plan {
             outcome: Outcome::Done,
             change: Change::NextDelta,
             writing: Some(write),
-            due: due,
+            due,
         }
     }
 
@@ -51,10 +51,10 @@ impl Plan {
         ensures { result ≡ refused outcome due }
     {
         Plan {
-            outcome: outcome,
+            outcome,
             change: Change::Nothing,
             writing: None,
-            due: due,
+            due,
         }
     }
 
@@ -100,7 +100,6 @@ impl Ack {
     fn due(self, m: Module, r: Request) -> Due
         ensures { result ≡ due_of m r self }
     {
-        let identity = m.identity;
         let both = Head::answering(ReplyType::Ack, r, r.command1, r.command2);
         match self {
             Ack::Repeated => Due::Alone(both),
@@ -113,7 +112,7 @@ impl Ack {
                 command2: x,
                 ..both
             }),
-            Ack::WithId => Due::WithId(both, identity.id(), identity.revision),
+            Ack::WithId => Due::WithId(both, m.identity.id(), m.identity.revision),
             Ack::WithProperties(data) => Due::WithProperties(both, data),
             Ack::WithRecords(asked) => Due::WithRecords(both, asked),
         }

@@ -33,11 +33,11 @@ impl Head {
         ensures { result ≡ headed reply_type r command1 command2 }
     {
         Head {
-            reply_type: reply_type,
+            reply_type,
             to: r.from,
             hops: r.hops,
-            command1: command1,
-            command2: command2,
+            command1,
+            command2,
         }
     }
 }

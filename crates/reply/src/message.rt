@@ -34,8 +34,6 @@ impl Head {
         ensures { result ≡ head_of from self }
     {
         let to = self.to;
-        let reply_type = self.reply_type;
-        let flags = reply_type.flags(self.hops);
         [
             from.high,
             from.middle,
@@ -43,7 +41,7 @@ impl Head {
             to.high,
             to.middle,
             to.low,
-            flags,
+            self.reply_type.flags(self.hops),
             self.command1,
             self.command2,
         ]
@@ -55,7 +53,7 @@ impl Head {
     {
         Head {
             reply_type: ReplyType::Data,
-            command1: command1,
+            command1,
             command2: 0x00,
             ..self
         }

@@ -11,8 +11,7 @@ use wire::request::Request;
 pub(crate) fn database_deed(r: Request, data: [u8; 14], records: usize) -> Deed
     ensures { result ≡ database_deed r «data» records }
 {
-    let command2 = r.command2;
-    match command2 {
+    match r.command2 {
         0x00 => record_deed(data, records),
         _ => Deed::Unlisted,
     }
@@ -22,9 +21,8 @@ pub(crate) fn database_deed(r: Request, data: [u8; 14], records: usize) -> Deed
 fn record_deed(data: [u8; 14], records: usize) -> Deed
     ensures { result ≡ record_deed «data» records }
 {
-    let what = data[1];
     let place = place_of(records, usize::from(data[2]) * 256 + usize::from(data[3]));
-    match what {
+    match data[1] {
         0x00 => get_deed(data, place),
         0x02 => set_deed(data, place),
         _ => Deed::Unlisted,

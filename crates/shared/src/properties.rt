@@ -12,8 +12,7 @@ use wire::request::Request;
 pub(crate) fn properties_deed(r: Request, data: [u8; 14]) -> Deed
     ensures { result ≡ properties_deed r «data» }
 {
-    let command2 = r.command2;
-    match command2 {
+    match r.command2 {
         0x00 => property_deed(data),
         _ => Deed::Unlisted,
     }
@@ -23,9 +22,8 @@ pub(crate) fn properties_deed(r: Request, data: [u8; 14]) -> Deed
 fn property_deed(data: [u8; 14]) -> Deed
     ensures { result ≡ property_deed «data» }
 {
-    let what = data[1];
     let x = data[2];
-    match what {
+    match data[1] {
         0x04 => Deed::acked(Change::X10(x, data[3])),
         0x07 => Deed::acked(Change::Led(x)).limited(0x11, 0x7f, x),
         _ => Deed::Unlisted,

@@ -9,7 +9,7 @@ use crate::Show;
 use crate::said::say_failed;
 use lines::counts::put_counts;
 use lines::told::put_told;
-use modem::serve::{CRAMPED, serve};
+use modem::serve::serve;
 use row::progress::Whom;
 use seating::heed::{Heeded, Seating};
 use text::line::Tally;
@@ -56,11 +56,10 @@ pub(crate) fn answer(
         result links.new }
 {
     let s = desk.seating;
-    let served = serve(s, links, frame, room, out);
-    let h = served.heeded;
-    if h.number == CRAMPED {
+    let Some(served) = serve(s, links, frame, room, out) else {
         return closed(desk);
-    }
+    };
+    let h = served.heeded;
     let is_told = tell(rt, show, frame, h, room, out, served.sent);
     answered(desk, h, is_told)
 }

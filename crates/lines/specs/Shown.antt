@@ -17,8 +17,10 @@ abbrev pub shown_of : Load → LoadShown
 shown_of (Load.Dimmer lamp) = LoadShown.Level lamp.level
 shown_of (Load.Outlet sockets) = LoadShown.Sockets sockets.top sockets.bottom
 
+-- a module alone is shown as whatever seat it is asked for
 unfoldable pub shown_at : Seating → ℕ → LoadShown
-shown_at s i = choose (ltb i 16) (shown_of (get_or s.row i blank).load) LoadShown.Any
+shown_at (Seating.Alone m) i = shown_of m.load
+shown_at (Seating.Class row count) i = choose (ltb i 16) (shown_of (get_or row i blank).load) LoadShown.Any
 
 -- that of the seat it is for; where it is for none of them, or for all, any kind's
 abbrev pub shown_for : Seating → Whom → LoadShown

@@ -8,11 +8,13 @@ use text::line::{Tally, put_seats, put_tally};
 pub fn put_counts(line: &mut [u8], s: Seating, tally: Tally) -> usize
     ensures { IsPrefixLen result line.new }
 {
-    if s.is_class {
-        let at = put_tally(line, tally, 12);
-        return put_seats(line, at, tally, listed(s.count));
+    match s {
+        Seating::Alone(_) => put_tally(line, tally, 9),
+        Seating::Class { count, .. } => {
+            let at = put_tally(line, tally, 12);
+            put_seats(line, at, tally, listed(count))
+        }
     }
-    put_tally(line, tally, 9)
 }
 
 fn listed(count: usize) -> usize {

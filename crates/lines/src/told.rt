@@ -15,21 +15,25 @@ use text::line::{Shown, put_end, put_heard, put_line, put_seat};
 pub fn put_told(line: &mut [u8], frame: &[u8], h: Heeded, reply: &[u8]) -> usize
     ensures { IsPrefixLen result line.new }
 {
-    let next = h.next;
-    if next.is_class {
-        return put_class(line, frame, h, reply);
+    match h.next {
+        Seating::Alone(_) => put_line(line, frame, shown(h), reply),
+        Seating::Class { row, count } => put_class(line, frame, h, reply, row, count),
     }
-    put_line(line, frame, shown(h), reply)
 }
 
 // The seat that it was for, or every one.
-fn put_class(line: &mut [u8], frame: &[u8], h: Heeded, reply: &[u8]) -> usize
+fn put_class(
+    line: &mut [u8],
+    frame: &[u8],
+    h: Heeded,
+    reply: &[u8],
+    row: [Module; 16],
+    count: usize,
+) -> usize
     ensures { IsPrefixLen result line.new }
 {
-    let next = h.next;
-    let row = next.row;
     let whom = h.whom;
-    let n = min(next.count, 16);
+    let n = min(count, 16);
     let mut at = put_heard(line, frame, shown(h), reply);
     let mut i: usize = 0;
     while i < n {
@@ -87,13 +91,16 @@ fn shown_for(s: Seating, whom: Whom) -> LoadShown
 fn shown_at(s: Seating, i: usize) -> LoadShown
     ensures { result ≡ shown_at s i }
 {
-    if i < 16 {
-        let row = s.row;
-        let m = row[i];
-        let load = m.load;
-        return load_shown(load);
+    match s {
+        Seating::Alone(m) => load_shown(m.load),
+        Seating::Class { row, .. } => {
+            if i < 16 {
+                load_shown(row[i].load)
+            } else {
+                LoadShown::Any
+            }
+        }
     }
-    LoadShown::Any
 }
 
 fn load_shown(load: Load) -> LoadShown

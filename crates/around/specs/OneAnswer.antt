@@ -26,7 +26,6 @@ use Rattle.reply.specs.Message.{headed}
 use Rattle.reply.specs.Reply.{reply_of}
 use Rattle.reply.specs.Sending.{Sending}
 use Rattle.results.specs.declared.Outcome.{Outcome}
-use Rattle.results.specs.Number.{number_of}
 use Rattle.module.specs.declared.state.Identity.{Identity}
 use Rattle.load.specs.declared.entry.Entry.{Entry}
 use Rattle.load.specs.declared.entry.LoadEntry.{LoadEntry}
@@ -57,8 +56,8 @@ use Rattle.row.specs.declared.outcome.ClassOutcome.{ClassOutcome}
 use Rattle.row.specs.declared.progress.ClassAnswer.{ClassAnswer}
 use Rattle.row.specs.declared.progress.Progress.{Progress}
 use Rattle.class.specs.declared.seats.SeatsAnswer.{SeatsAnswer}
-use Rattle.row.specs.Number.{class_number_of}
-use Rattle.row.specs.Round.{silent, ended, opened, noticed, settled_if_few}
+use Rattle.row.specs.Answer.{silent, joined, of_seat, and_seat}
+use Rattle.row.specs.Round.{ended, opened, noticed, settled_if_few}
 use Rattle.class.specs.Class.{class_of, ClassComes}
 use Rattle.class.specs.Seats.{seats_of, SeatsCome}
 use Rattle.seating.specs.declared.heed.Seating.{Seating}
@@ -78,7 +77,6 @@ use Rattle.roster.specs.Line.{line_of}
 use Rattle.roster.specs.Roster.{roster_of}
 use Rattle.letters.specs.declared.Line as letters
 use Rattle.letters.specs.Laid.{laid_in, Begins}
-use Rattle.image.specs.declared.held.Held.{Held}
 use Rattle.image.specs.Image.{is_image, held_in, stored_if_own}
 use Rattle.image.specs.Returned.{Returned, Returns}
 use Rattle.embed.specs.Call.{returned_of}
@@ -138,7 +136,6 @@ pub record EachOnce : Type 1 where
   pub reply-answering : (type : ReplyType) (q : Request) (one two : ℕ) → Only (λ (r : Head). r ≡ headed type q one two)
   pub reply-send : (own : Address) (l : List ℕ) (due : Due) (room : List ℕ)
       → Only (λ (d : Delivered). Sending (reply_of own l due) room d.answer d.room)
-  pub results-number : (o : Outcome) → Only (λ (r : ℕ). r ≡ number_of o)
   -- of a load of each type
   pub load-becomes : (L : Type 0) (load : L) → Only (λ (r : LoadEntry L). r ≡ becomes load)
   pub load-stays : (L : Type 0) (load : L) (entry : Entry) → Only (λ (r : LoadEntry L). r ≡ stays load entry)
@@ -166,7 +163,9 @@ pub record EachOnce : Type 1 where
   pub device-step : (m : Module) (l s room : List ℕ) → Only (λ (d : Called). StepPromise m l s room d.answer d.links d.room)
   pub device-serve : (m : Module) (l : List ℕ) (heard : Message) (room : List ℕ)
       → Only (λ (d : Called). Comes (step_by m l heard room) d.answer d.links d.room)
-  pub row-class-number : (o : ClassOutcome) → Only (λ (r : ℕ). r ≡ class_number_of o)
+  pub row-joined : (before : ClassOutcome) (own : Outcome) → Only (λ (r : ClassOutcome). r ≡ joined before own)
+  pub row-of-seat : (seat : ℕ) (o : Outcome) (length read : ℕ) → Only (λ (r : ClassAnswer). r ≡ of_seat seat o length read)
+  pub row-and-seat : (before : ClassAnswer) (o : Outcome) (read : ℕ) → Only (λ (r : ClassAnswer). r ≡ and_seat before o read)
   pub row-silent : (o : ClassOutcome) → Only (λ (r : ClassAnswer). r ≡ silent o)
   pub row-ended : (t : Progress) (answer : ClassAnswer) → Only (λ (r : Progress). r ≡ ended t answer)
   pub row-open : (n bytes : ℕ) (heard : Message) → Only (λ (r : Progress). r ≡ opened n bytes heard)
@@ -191,7 +190,7 @@ pub record EachOnce : Type 1 where
   pub roster-fresh-as : (kind : Kind) (i : Identity) → Only (λ (r : Module). r ≡ fresh_as kind i)
   pub roster-line-of : (line : List ℕ) → Only (λ (r : Line). r ≡ line_of line)
   pub roster-roster-of : (text : List ℕ) → Only (λ (r : Roster). r ≡ roster_of text)
-  pub image-held-in : (image : List ℕ) → Only (λ (r : Held). r ≡ held_in image)
+  pub image-held-in : (image : List ℕ) → Only (λ (r : Option Module). r ≡ held_in image)
   pub image-is-image : (image : List ℕ) → Only (λ (r : Bool). r ≡ is_image image)
   pub image-store : (image : List ℕ) (m : Module) → Only (λ (after : List ℕ). after ≡ stored_if_own image m)
   pub image-tell : (report : List ℕ) (sent read : ℕ) → Only (λ (after : List ℕ). after ≡ laid_if_fits report (sent ∷ read ∷ []))

@@ -10,7 +10,7 @@ use crate::said::say_failed;
 use letters::Line;
 use lines::counts::Counts;
 use lines::told::Told;
-use modem::serve::{CRAMPED, serve};
+use modem::serve::serve;
 use row::progress::Whom;
 use seating::heed::{Heeded, Seating};
 use std::fmt::{Display, Write};
@@ -63,11 +63,10 @@ pub(crate) fn answer(
         result links.new }
 {
     let s = desk.seating;
-    let served = serve(s, links, frame, room, out);
-    let h = served.heeded;
-    if h.number == CRAMPED {
+    let Some(served) = serve(s, links, frame, room, out) else {
         return closed(desk);
-    }
+    };
+    let h = served.heeded;
     let is_told = tell(rt, show, frame, h, room, out, served.sent);
     answered(desk, h, is_told)
 }

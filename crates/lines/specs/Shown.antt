@@ -17,9 +17,10 @@ abbrev pub shown_of : Load → LoadShown
 shown_of (Load.Dimmer lamp) = LoadShown.Level lamp.level
 shown_of (Load.Outlet sockets) = LoadShown.Sockets sockets.top sockets.bottom
 
--- there are sixteen seats
+-- there are sixteen seats; a module alone is shown as whatever seat it is asked for
 unfoldable pub shown_at : Seating → ℕ → Option LoadShown
-shown_at s i = choose (ltb i 16) (Some (shown_of (get_or s.row i blank).load)) None
+shown_at (Seating.Alone m) i = Some (shown_of m.load)
+shown_at (Seating.Class row count) i = choose (ltb i 16) (Some (shown_of (get_or row i blank).load)) None
 
 -- that of the seat it is for; where it is for none of them, or for all, any kind's
 abbrev pub shown_for : Seating → Whom → Option LoadShown

@@ -13,15 +13,19 @@ pub struct Counts<'a> {
 impl fmt::Display for Counts<'_> {
     fn fmt<W: fmt::Write>(&self, f: &mut fmt::Formatter<W>) -> fmt::Result {
         let results = &self.tally.results;
-        if !self.seating.is_class {
-            let alone = ByResult(&results[..9]);
-            return write!(f, "{alone}");
+        match self.seating {
+            Seating::Alone(_) => {
+                let alone = ByResult(&results[..9]);
+                write!(f, "{alone}")
+            }
+            Seating::Class { count, .. } => {
+                let by_result = ByResult(results);
+                let by_seat = BySeat {
+                    seats: self.tally.seats.get(..*count).unwrap_or(&[]),
+                    every: self.tally.every,
+                };
+                write!(f, "{by_result}{by_seat}")
+            }
         }
-        let by_result = ByResult(results);
-        let by_seat = BySeat {
-            seats: self.tally.seats.get(..self.seating.count).unwrap_or(&[]),
-            every: self.tally.every,
-        };
-        write!(f, "{by_result}{by_seat}")
     }
 }

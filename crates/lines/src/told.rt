@@ -3,6 +3,7 @@ ghost use Rattle.std.specs.Prelude.{◌≡◌};
 ghost use Rattle.lines.specs.Shown.{shown_of, shown_at, shown_for, is_for};
 
 use load::state::Load;
+use module::state::Module;
 use names::LoadShown;
 use row::progress::Whom;
 use seating::heed::{Heeded, Seating};
@@ -22,19 +23,26 @@ impl fmt::Display for Told<'_> {
         let heeded = self.heeded;
         let heard = heard(self.frame, heeded, self.reply);
         write!(f, "{heard}")?;
-        let next = &heeded.next;
-        if next.is_class {
-            write_seats(f, next, heeded.whom)?;
-        } else if let Some(load) = heard.load {
-            write!(f, " | {load}")?;
+        match &heeded.next {
+            Seating::Alone(_) => {
+                if let Some(load) = heard.load {
+                    write!(f, " | {load}")?;
+                }
+            }
+            Seating::Class { row, count } => write_seats(f, row, *count, heeded.whom)?,
         }
         writeln!(f)
     }
 }
 
 // Seats are told by the number of their line.
-fn write_seats<W: fmt::Write>(f: &mut fmt::Formatter<W>, s: &Seating, whom: Whom) -> fmt::Result {
-    for (i, m) in s.row.iter().take(s.count).enumerate() {
+fn write_seats<W: fmt::Write>(
+    f: &mut fmt::Formatter<W>,
+    row: &[Module; 16],
+    count: usize,
+    whom: Whom,
+) -> fmt::Result {
+    for (i, m) in row.iter().take(count).enumerate() {
         if is_for(whom, i) {
             let seat = i + 1;
             let load = load_shown(m.load);
@@ -82,9 +90,12 @@ fn shown_for(s: &Seating, whom: Whom) -> Option<LoadShown>
 fn shown_at(s: &Seating, i: usize) -> Option<LoadShown>
     ensures { result ≡ shown_at s.now i }
 {
-    match s.row.get(i) {
-        Some(m) => Some(load_shown(m.load)),
-        None => None,
+    match s {
+        Seating::Alone(m) => Some(load_shown(m.load)),
+        Seating::Class { row, .. } => match row.get(i) {
+            Some(m) => Some(load_shown(m.load)),
+            None => None,
+        },
     }
 }
 

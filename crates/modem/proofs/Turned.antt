@@ -8,16 +8,18 @@ use lib.ListN.{length, take, drop, length-append, length-take}
 use lib.Seq.{take-append_seam}
 use borrow.Author.Tests.{lt-ltb, le-ltb, ltb-true, ltb-false}
 use borrow.Rule.Slice.PartMut.{mid_of}
+use Rattle.std.specs.Prelude.{Option, None, Some}
+use Rattle.std.proofs.lemmas.Option.{none-some, same_Some}
 use Rattle.basis.specs.Choice.{choose}
 use Rattle.basis.specs.Laid.{laid}
 use Rattle.basis.proofs.Laid.{rest}
 use Rattle.seating.specs.declared.heed.Seating.{Seating}
 use Rattle.seating.specs.declared.heed.Heeded.{Heeded}
 use Rattle.seating.specs.Heed.{Heed, heed_of, Heeds}
-use Rattle.seating.proofs.Laws.{numbered, heed_replied}
+use Rattle.seating.proofs.Laws.{heed_replied}
 use Rattle.modem.specs.declared.serve.Served.{Served}
 use Rattle.modem.specs.Frames.{framed}
-use Rattle.modem.specs.Serve.{Turn, heeded_of, done_of, ample, cramped_of, turn_of, ServePromise}
+use Rattle.modem.specs.Serve.{Turn, heeded_of, done_of, ample, turn_of, ServePromise}
 
 -- the message behind the first two bytes; none where there are no more
 pub message : (s : List ℕ) → mid_of (min (length s) 2) (length s - min (length s) 2) s ≡ drop 2 s
@@ -47,7 +49,7 @@ module _ (s : Seating) (l message room : List ℕ) (r : Heeded) (links after : L
 
 module _ (s : Seating) (l frame room out : List ℕ) where
   -- the promise is kept by what the turn is
-  kept : (x : Turn) → turn_of s l frame room out ≡ x → {r : Served} {links room' out' : List ℕ}
+  kept : (x : Turn) → turn_of s l frame room out ≡ x → {r : Option Served} {links room' out' : List ℕ}
       → r ≡ x.served → links ≡ x.links → room' ≡ x.room → out' ≡ x.out
       → ServePromise s l frame room out r links room' out'
   kept x e is n o p =
@@ -58,22 +60,22 @@ module _ (s : Seating) (l frame room out : List ℕ) where
         out-after = p ∙ sym (ap (λ (t : Turn). t.out) e);
       }
 
-  pub cramped : length out ≤ 2 * length room → (r : Served) → r ≡ cramped_of s → ServePromise s l frame room out r l room out
+  pub cramped : length out ≤ 2 * length room → ServePromise s l frame room out None l room out
   unfolding turn_of choose
-  cramped h r is = kept (record { served = cramped_of s; links = l; room = room; out = out }) (rw (le-ltb (2 * length room) (length out) h)) is refl refl refl
+  cramped h = kept (record { served = None; links = l; room = room; out = out }) (rw (le-ltb (2 * length room) (length out) h)) refl refl refl refl
 
   pub done : 2 * length room < length out → (r : Heeded) (links room' out' : List ℕ) (n : ℕ)
       → Heeds (heed_of s l (drop 2 frame) room) s r links room'
       → n ≡ length (framed (take r.length room'))
       → out' ≡ laid (framed (take r.length room')) out
-      → ServePromise s l frame room out (record { heeded = r; sent = n }) links room' out'
+      → ServePromise s l frame room out (Some (record { heeded = r; sent = n })) links room' out'
   unfolding turn_of choose
   done h r links room' out' n p q o =
       let t : Heed = heed_of s l (drop 2 frame) room in
       let e : take r.length room' ≡ t.reply = taken s l (drop 2 frame) room r links room' p in
       let a : r ≡ heeded_of s t = told s l (drop 2 frame) room r links room' p in
       let k : n ≡ length (framed t.reply) = q ∙ ap (λ (z : List ℕ). length (framed z)) e in
-      kept (done_of s out t) (rw (lt-ltb (2 * length room) (length out) h)) (λ i. record { heeded = a i; sent = k i }) p.memory p.room_after
+      kept (done_of s out t) (rw (lt-ltb (2 * length room) (length out) h)) (λ i. Some (record { heeded = a i; sent = k i })) p.memory p.room_after
       (o ∙ ap (λ (z : List ℕ). laid (framed z) out) e)
 
 -- a frame that was served: what its message leaves, with the reply in the room and its frames in `out`
@@ -86,17 +88,17 @@ pub record Shows (s : Seating) (l frame room out : List ℕ) (r : Served) (links
   pub stands : r.heeded.length ≤ length room'
   pub lies : r.sent ≤ length out'
 
-module _ (s : Seating) (l frame room out : List ℕ) (r : Served) (links room' out' : List ℕ) (p : ServePromise s l frame room out r links room' out') where
+module _ (s : Seating) (l frame room out : List ℕ) (links room' out' : List ℕ) where
   abbrev t : Heed
   t = heed_of s l (drop 2 frame) room
 
-  pub shows : (r.heeded.number ≡ 255 → ⊥) → Shows s l frame room out r links room' out'
+  pub shows : (r : Served) → ServePromise s l frame room out (Some r) links room' out' → Shows s l frame room out r links room' out'
   unfolding turn_of choose
-  shows is = go (ample room out) refl
+  shows r p = go (ample room out) refl
     where
       go : (b : Bool) → ample room out ≡ b → Shows s l frame room out r links room' out'
       go true q =
-          let e : r ≡ record { heeded = heeded_of s t; sent = length (framed t.reply) } = rw q at p.served in
+          let e : r ≡ record { heeded = heeded_of s t; sent = length (framed t.reply) } = same_Some _ _ (rw q at p.served) in
           let o : out' ≡ laid (framed t.reply) out = rw q at p.out-after in
           let after : room' ≡ t.room = rw q at p.room_after in
           let long : r.heeded.length ≡ length t.reply = ap (λ (z : Served). z.heeded.length) e in
@@ -112,18 +114,13 @@ module _ (s : Seating) (l frame room out : List ℕ) (r : Served) (links room' o
             stands = rw (long, after) k;
             lies = rw o (simp length-append (omega (arith, sent)));
           }
-      go false q =
-          let e : r ≡ cramped_of s = rw q at p.served in
-          absurd (is (ap (λ (z : Served). z.heeded.number) e))
+      go false q = absurd (none-some r (sym (rw q at p.served)))
 
   -- one that was not: `out` is too short, and nothing is altered
-  pub refused : r.heeded.number ≡ 255 → (length out ≤ 2 * length room) × (links ≡ l)
+  pub refused : ServePromise s l frame room out None links room' out' → (length out ≤ 2 * length room) × (links ≡ l)
   unfolding turn_of choose
-  refused is = go (ample room out) refl
+  refused p = go (ample room out) refl
     where
       go : (b : Bool) → ample room out ≡ b → (length out ≤ 2 * length room) × (links ≡ l)
-      go true q =
-          let e : r ≡ record { heeded = heeded_of s t; sent = length (framed t.reply) } = rw q at p.served in
-          let same : t.number ≡ 255 = sym (ap (λ (z : Served). z.heeded.number) e) ∙ is in
-          absurd (omega (arith, same, numbered s l (drop 2 frame) room))
+      go true q = absurd (none-some _ (rw q at p.served))
       go false q = (ltb-false (2 * length room) (length out) q, rw q at p.links-after)

@@ -1,8 +1,7 @@
 -- One whole frame to whoever sits there ("The program").
-use Rattle.std.specs.Prelude.{ℕ, ◌*◌, ◌≡◌, Bool, List, ltb, length, drop}
+use Rattle.std.specs.Prelude.{ℕ, Option, None, Some, ◌*◌, ◌≡◌, Bool, List, ltb, length, drop}
 use Rattle.basis.specs.Choice.{choose}
 use Rattle.basis.specs.Laid.{laid}
-use Rattle.row.specs.declared.progress.Whom.{Whom}
 use Rattle.seating.specs.declared.heed.Seating.{Seating}
 use Rattle.seating.specs.declared.heed.Heeded.{Heeded}
 use Rattle.seating.specs.Heed.{Heed, seated_with, heed_of}
@@ -11,7 +10,7 @@ use Rattle.modem.specs.Frames.{framed}
 
 -- all that comes out of a frame
 pub record Turn : Type 0 where
-  pub served : Served
+  pub served : Option Served
   pub links : List ℕ
   pub room : List ℕ
   pub out : List ℕ
@@ -23,7 +22,7 @@ heeded_of s t = record { number = t.number; length = length t.reply; read = t.re
 abbrev pub done_of : Seating → List ℕ → Heed → Turn
 done_of s out t =
     record {
-      served = record { heeded = heeded_of s t; sent = length (framed t.reply) };
+      served = Some (record { heeded = heeded_of s t; sent = length (framed t.reply) });
       links = t.links;
       room = t.room;
       out = laid (framed t.reply) out;
@@ -33,16 +32,13 @@ done_of s out t =
 abbrev pub ample : List ℕ → List ℕ → Bool
 ample room out = ltb (2 * length room) (length out)
 
--- else no frame is served, and the number is none of the paper's
-abbrev pub cramped_of : Seating → Served
-cramped_of s = record { heeded = record { number = 255; length = 0; read = 0; whom = Whom.Nobody; next = s }; sent = 0 }
-
+-- else no frame is served
 unfoldable pub turn_of : Seating → List ℕ → List ℕ → List ℕ → List ℕ → Turn
 turn_of s l frame room out =
     choose (ample room out) (done_of s out (heed_of s l (drop 2 frame) room))
-    (record { served = cramped_of s; links = l; room = room; out = out })
+    (record { served = None; links = l; room = room; out = out })
 
-pub record ServePromise (s : Seating) (l frame room out : List ℕ) (r : Served) (links room' out' : List ℕ) : Type 0 where
+pub record ServePromise (s : Seating) (l frame room out : List ℕ) (r : Option Served) (links room' out' : List ℕ) : Type 0 where
   pub served : r ≡ (turn_of s l frame room out).served
   pub links-after : links ≡ (turn_of s l frame room out).links
   pub room_after : room' ≡ (turn_of s l frame room out).room

@@ -4,6 +4,7 @@ ghost use Rattle.basis.specs.Laid.{laid};
 ghost use Rattle.modem.specs.Arrived.{stops_at, frame_start, size_at, seek_of};
 
 // Where a whole frame stands and how long it is; or where the bytes begin that are to be kept until more arrive.
+// Stays an enum, and no Result: neither is a refusal, and in both what is said is a place.
 #[derive(Clone, Copy)]
 pub enum Seen {
     Whole(usize, usize),
@@ -25,14 +26,12 @@ pub fn seek(s: &[u8]) -> Seen
 fn frame_start(s: &[u8]) -> usize
     ensures { result ≡ frame_start s.now }
 {
-    let mut k: usize = 0;
-    while k < s.len() {
+    for k in 0..s.len() {
         if stops_at(s, k) {
             return k;
         }
-        k += 1;
     }
-    k
+    s.len()
 }
 
 // A frame starts here, or the byte that would tell has not arrived.
@@ -66,13 +65,8 @@ fn size_at(s: &[u8], k: usize) -> usize
 pub fn keep(held: &mut [u8], from: usize)
     ensures { held.new ≡ laid (drop from held.old) held.old }
 {
-    if held.len() < from {
+    if held.len() <= from {
         return;
     }
-    let n = held.len() - from;
-    let mut i: usize = 0;
-    while i < n {
-        held[i] = held[from + i];
-        i += 1;
-    }
+    held.copy_within(from.., 0);
 }

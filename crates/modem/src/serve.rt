@@ -1,10 +1,8 @@
 // One whole frame to whoever sits there: frame in, seats and link memory on, frames out ("The program").
-ghost use Rattle.std.specs.Prelude.{◌≡◌};
-ghost use Rattle.modem.specs.Serve.{cramped_of, ServePromise};
+ghost use Rattle.modem.specs.Serve.{ServePromise};
 
 use crate::frames::put_frames;
 use basis::min;
-use row::progress::Whom;
 use seating::heed::{Heeded, Seating, heed};
 
 // What its message came to, and how many bytes of frames there are.
@@ -14,38 +12,26 @@ pub struct Served {
     pub sent: usize,
 }
 
-// The number where the frames of a reply might not fit: nothing is altered.
-pub const CRAMPED: u8 = 255;
-
-pub fn serve(s: Seating, links: &mut [u8], frame: &[u8], room: &mut [u8], out: &mut [u8]) -> Served
+// None where the frames of a reply might not fit: nothing is altered.
+pub fn serve(
+    s: Seating,
+    links: &mut [u8],
+    frame: &[u8],
+    room: &mut [u8],
+    out: &mut [u8],
+) -> Option<Served>
     ensures { ServePromise s links.old frame.now room.old out.old
         result links.new room.new out.new }
 {
     if out.len() <= 2 * room.len() {
-        return cramped(s);
+        return None;
     }
     let start = min(frame.len(), 2);
     let heeded = heed(s, links, &frame[start..], room);
     let n = heeded.length;
     let sent = put_frames(out, &room[..n]);
-    Served {
+    Some(Served {
         heeded: heeded,
         sent: sent,
-    }
-}
-
-fn cramped(s: Seating) -> Served
-    ensures { result ≡ cramped_of s }
-{
-    let heeded = Heeded {
-        number: CRAMPED,
-        length: 0,
-        read: 0,
-        whom: Whom::Nobody,
-        next: s,
-    };
-    Served {
-        heeded: heeded,
-        sent: 0,
-    }
+    })
 }

@@ -3,7 +3,7 @@ use Prim.Native.Nat.{ℕ, ◌≤◌}
 use mathlib.Core.Path.{◌≡◌, refl, ap}
 use mathlib.Core.List.{List, [], ◌∷◌, ◌++◌}
 use native.Mathlib.Omega.{arith}
-use lib.ListN.{length, take, drop, set}
+use lib.ListN.{length, take, drop}
 use Rattle.basis.proofs.Choice.{either, beside}
 use Rattle.results.specs.declared.Outcome.{Outcome}
 use Rattle.results.specs.Number.{number_of}
@@ -19,7 +19,7 @@ use Rattle.class.specs.Class.{ClassStep}
 use Rattle.class.specs.Seats.{seats_of}
 use Rattle.class.proofs.Lent.{ClassSaid, class_alike, class_replied}
 use Rattle.seating.specs.declared.heed.Seating.{Seating}
-use Rattle.seating.specs.Heed.{Heed, first_in, alone_of, by_class, class_heed, seated_with, heed_of}
+use Rattle.seating.specs.Heed.{Heed, by_class, heed_of}
 use Rattle.seating.specs.Sat.{Sat, Told, heed_in, sat_by, heed_all, sat_after, told_by}
 
 -- numbers are 0 to 11
@@ -49,65 +49,46 @@ pub record HeedReplied (room : List ℕ) (t : Heed) : Type 0 where
 pub record HeedAlike (s : Sat) (t u : Heed) : Type 0 where
   pub same : told_by s t ≡ told_by s u
 
-module _ (s : Seating) (l message : List ℕ) where
-  pub numbered : (room : List ℕ) → (heed_of s l message room).number ≤ 11
-  unfolding heed_of
-  numbered room =
-      either (λ (t : Heed). t.number ≤ 11) _ {x = class_heed s l message room} {y = alone_of s l message room}
-      (of_class (seats_of s.row s.count l message room).outcome)
-      (single (step_of (first_in s.row) l message room).outcome)
+pub numbered : (s : Seating) (l message room : List ℕ) → (heed_of s l message room).number ≤ 11
+unfolding heed_of
+numbered (Seating.Alone m) l message room = single (step_of m l message room).outcome
+numbered (Seating.Class row count) l message room = of_class (seats_of row count l message room).outcome
 
-  abbrev row : List Module
-  row = take s.count s.row
+pub heed_replied : (s : Seating) (l message room : List ℕ) → HeedReplied room (heed_of s l message room)
+unfolding heed_of
+heed_replied (Seating.Alone m) l message room = let own = replied m l message room in record { fits = own.fits; start = own.start }
+heed_replied (Seating.Class row count) l message room =
+    let own = class_replied (take count row) l message room in
+    either (λ (t : ClassStep). HeedReplied room (by_class t)) _ (record { fits = omega arith; start = refl }) (record { fits = own.fits; start = own.start })
 
-  abbrev sat : Sat
-  sat = record { seating = s; links = l }
+-- a room matters by its length alone
+abbrev from_said : Said → Told
+from_said x =
+    record {
+      number = number_of x.outcome;
+      reply = x.reply;
+      read = x.read;
+      whom = Whom.Seat 0;
+      left = record { seating = Seating.Alone x.left.device; links = x.left.links };
+    }
 
-  class_replies : (room : List ℕ) → HeedReplied room (class_heed s l message room)
-  class_replies room =
-      let own = class_replied row l message room in
-      either (λ (t : ClassStep). HeedReplied room (by_class t)) _ (record { fits = omega arith; start = refl }) (record { fits = own.fits; start = own.start })
+abbrev from_class : List Module → ℕ → ClassSaid → Told
+from_class row count x =
+    record {
+      number = class_number_of x.outcome;
+      reply = x.reply;
+      read = x.read;
+      whom = x.whom;
+      left = record { seating = Seating.Class (x.row ++ drop count row) count; links = x.links };
+    }
 
-  alone_replies : (room : List ℕ) → HeedReplied room (alone_of s l message room)
-  alone_replies room = let own = replied (first_in s.row) l message room in record { fits = own.fits; start = own.start }
-
-  pub heed_replied : (room : List ℕ) → HeedReplied room (heed_of s l message room)
-  unfolding heed_of
-  heed_replied room = either (HeedReplied room) _ (class_replies room) (alone_replies room)
-
-  -- a room matters by its length alone
-  abbrev from_said : Said → Told
-  from_said x =
-      record {
-        number = number_of x.outcome;
-        reply = x.reply;
-        read = x.read;
-        whom = Whom.Seat 0;
-        left = record { seating = seated_with s (set s.row 0 x.left.device); links = x.left.links };
-      }
-
-  abbrev from_class : ClassSaid → Told
-  from_class x =
-      record {
-        number = class_number_of x.outcome;
-        reply = x.reply;
-        read = x.read;
-        whom = x.whom;
-        left = record { seating = seated_with s (x.row ++ drop s.count s.row); links = x.links };
-      }
-
-  module _ (room other : List ℕ) (e : length room ≡ length other) where
-    class_same : HeedAlike sat (class_heed s l message room) (class_heed s l message other)
-    class_same =
-        beside (λ (t u : ClassStep). HeedAlike sat (by_class t) (by_class u)) _ (record { same = refl })
-        (record { same = ap from_class (class_alike row l message room other e).same })
-
-    alone-same : HeedAlike sat (alone_of s l message room) (alone_of s l message other)
-    alone-same = record { same = ap from_said (room_alike (record { device = first_in s.row; links = l }) message room other e) }
-
-    pub heed-alike : told_by sat (heed_of s l message room) ≡ told_by sat (heed_of s l message other)
-    unfolding heed_of
-    heed-alike = (beside (HeedAlike sat) _ class_same alone-same).same
+pub heed-alike : (s : Seating) (l message room other : List ℕ) → length room ≡ length other
+    → told_by (record { seating = s; links = l }) (heed_of s l message room) ≡ told_by (record { seating = s; links = l }) (heed_of s l message other)
+unfolding heed_of
+heed-alike (Seating.Alone m) l message room other e = ap from_said (room_alike (record { device = m; links = l }) message room other e)
+heed-alike (Seating.Class row count) l message room other e =
+    (beside (λ (t u : ClassStep). HeedAlike (record { seating = Seating.Class row count; links = l }) (by_class t) (by_class u)) _ (record { same = refl })
+    (record { same = ap (from_class row count) (class_alike (take count row) l message room other e).same })).same
 
 -- calls in two parts
 pub heed_parts : (s : Sat) (first second : List Call) → heed_all s (first ++ second) ≡ heed_all s first ++ heed_all (sat_after s first) second

@@ -1,6 +1,5 @@
--- One message to whoever sits there: one module alone, in the first place, or a class in the first places.
-use Rattle.std.specs.Prelude.{ℕ, ◌≡◌, List, length, get_or, set}
-use Rattle.basis.specs.Choice.{choose}
+-- One message to whoever sits there: one module alone, or a class in the first places of its row.
+use Rattle.std.specs.Prelude.{ℕ, ◌≡◌, List, [], ◌∷◌, length, get_or}
 use Rattle.wire.specs.Bytes.{no_name}
 use Rattle.results.specs.Number.{number_of}
 use Rattle.load.specs.declared.state.Load.{Load}
@@ -13,7 +12,7 @@ use Rattle.class.specs.Seats.{seats_of}
 use Rattle.seating.specs.declared.heed.Seating.{Seating}
 use Rattle.seating.specs.declared.heed.Heeded.{Heeded}
 
--- all that comes out of a message
+-- all that comes out of a message; `row` is who sits there afterwards
 pub record Heed : Type 0 where
   pub number : ℕ
   pub reply : List ℕ
@@ -39,20 +38,20 @@ blank =
 abbrev pub first_in : List Module → Module
 first_in row = get_or row 0 blank
 
-abbrev pub by_step : List Module → Step → Heed
-by_step row t =
+abbrev pub by_step : Step → Heed
+by_step t =
     record {
       number = number_of t.outcome;
       reply = t.reply;
       read = t.read;
       whom = Whom.Seat 0;
-      row = set row 0 t.next;
+      row = t.next ∷ [];
       links = t.links;
       room = t.room;
     }
 
-abbrev pub alone_of : Seating → List ℕ → List ℕ → List ℕ → Heed
-alone_of s l message room = by_step s.row (step_of (first_in s.row) l message room)
+abbrev pub alone_of : Module → List ℕ → List ℕ → List ℕ → Heed
+alone_of m l message room = by_step (step_of m l message room)
 
 abbrev pub by_class : ClassStep → Heed
 by_class t =
@@ -66,15 +65,17 @@ by_class t =
       room = t.room;
     }
 
-abbrev pub class_heed : Seating → List ℕ → List ℕ → List ℕ → Heed
-class_heed s l message room = by_class (seats_of s.row s.count l message room)
+abbrev pub class_heed : List Module → ℕ → List ℕ → List ℕ → List ℕ → Heed
+class_heed row count l message room = by_class (seats_of row count l message room)
 
 unfoldable pub heed_of : Seating → List ℕ → List ℕ → List ℕ → Heed
-heed_of s l message room = choose s.is_class (class_heed s l message room) (alone_of s l message room)
+heed_of (Seating.Alone m) l message room = alone_of m l message room
+heed_of (Seating.Class row count) l message room = class_heed row count l message room
 
 -- the same seats, with other modules in them
 abbrev pub seated_with : Seating → List Module → Seating
-seated_with s row = record { row = row; count = s.count; is_class = s.is_class }
+seated_with (Seating.Alone m) row = Seating.Alone (first_in row)
+seated_with (Seating.Class before count) row = Seating.Class row count
 
 -- what a call promises: its answer, link memory and room afterwards
 pub record Heeds (t : Heed) (s : Seating) (r : Heeded) (links room : List ℕ) : Type 0 where

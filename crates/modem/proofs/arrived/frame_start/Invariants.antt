@@ -1,5 +1,5 @@
 -- What is left to look at from place k on stops where the whole stops.
-use Prim.Native.Nat.{◌≤◌, ◌-◌}
+use Prim.Native.Nat.{◌-◌}
 use mathlib.Core.Path.{◌≡◌}
 use lib.ListN.{length}
 use Rattle.basis.specs.First.{first_from}
@@ -7,7 +7,4 @@ use Rattle.modem.specs.Arrived.{stops_at, frame_start}
 use Rattle.modem.proofs.arrived.frame_start.Given as goal
 
 abbrev pub invariant-loop-k : goal.invariant-loop-k
-invariant-loop-k l = (l.k ≤ length l.s) × (first_from (stops_at l.s) (length l.s - l.k) l.k ≡ frame_start l.s)
-
-abbrev pub decreases-loop-k : goal.decreases-loop-k
-decreases-loop-k l = length l.s - l.k
+invariant-loop-k l = first_from (stops_at l.s) (length l.s - l.k) l.k ≡ frame_start l.s

@@ -5,7 +5,7 @@ use Rattle.modem.proofs.serve.serve.Goals as goal
 pub returns-then-out-room : goal.returns-then-out-room
 returns-then-out-room c =
     let g = c.args in
-    cramped g.s g.links.now g.frame.now g.room.now g.out.now c.if-out-room.true c.cramped.result c.cramped.ensures
+    cramped g.s g.links.now g.frame.now g.room.now g.out.now c.if-out-room.true
 
 -- the reply that is lent is as long as the step says
 pub slice_bounds-put_frames-end : goal.slice_bounds-put_frames-end

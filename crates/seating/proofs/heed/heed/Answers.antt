@@ -1,20 +1,10 @@
-use Rattle.basis.proofs.Choice.{by}
-use Rattle.basis.proofs.Tests.{clash}
-use Rattle.seating.specs.Heed.{Heed, heed_of, Heeds}
+use Rattle.seating.specs.Heed.{heed_of}
 use Rattle.seating.proofs.heed.heed.Goals as goal
 
-pub returns-then-s : goal.returns-then-s
+pub returns-in-Alone : goal.returns-in-Alone
 unfolding heed_of
-returns-then-s c =
-    let s = c.args.s in
-    by (λ (t : Heed). Heeds t s c.heed_class.result c.heed_class.new.links c.heed_class.new.room) s.is_class
-    (λ e. c.heed_class.ensures)
-    (λ e. clash c.if-s.true e)
+returns-in-Alone c = rw c.in-Alone.is c.heed_alone.ensures
 
-pub returns : goal.returns
+pub returns-in-Class : goal.returns-in-Class
 unfolding heed_of
-returns c =
-    let s = c.args.s in
-    by (λ (t : Heed). Heeds t s c.heed_alone.result c.heed_alone.new.links c.heed_alone.new.room) s.is_class
-    (λ e. clash e c.if-s.false)
-    (λ e. c.heed_alone.ensures)
+returns-in-Class c = rw c.in-Class.is c.heed_class.ensures

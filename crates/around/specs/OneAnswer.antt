@@ -1,5 +1,5 @@
 -- One answer only: two results that a public function's promise allows are equal ("What the promises have to say").
-use Rattle.std.specs.Prelude.{ℕ, ◌-◌, min, ◌≡◌, Bool, List, [], ◌∷◌, drop}
+use Rattle.std.specs.Prelude.{ℕ, ◌-◌, min, ◌≡◌, Bool, List, [], ◌∷◌, drop, Option}
 use Rattle.basis.specs.Laid.{laid, laid_if_fits}
 use Rattle.wire.specs.declared.address.Address.{Address}
 use Rattle.wire.specs.declared.request.Request.{Request}
@@ -73,12 +73,10 @@ use Rattle.modem.specs.declared.arrived.Seen.{Seen}
 use Rattle.modem.specs.Arrived.{seek_of}
 use Rattle.modem.specs.Serve.{Turn, ServePromise}
 use Rattle.roster.specs.declared.word.Kind.{Kind}
-use Rattle.roster.specs.declared.word.Meaning.{Meaning}
-use Rattle.roster.specs.declared.line.Line.{Line}
 use Rattle.roster.specs.declared.roster.Roster.{Roster}
-use Rattle.roster.specs.Word.{is_same, named}
+use Rattle.roster.specs.Word.{named}
 use Rattle.roster.specs.Seat.{fresh_as, fresh_at, bench_of}
-use Rattle.roster.specs.Line.{line_of}
+use Rattle.roster.specs.Line.{Line, line_of}
 use Rattle.roster.specs.Roster.{roster_of}
 use Rattle.image.specs.declared.held.Held.{Held}
 use Rattle.image.specs.Image.{is_image, held_in, stored_if_own}
@@ -189,8 +187,7 @@ pub record EachOnce : Type 0 where
   pub modem-keep : (held : List ℕ) (from : ℕ) → Only (λ (after : List ℕ). after ≡ laid (drop from held) held)
   pub modem-serve : (s : Seating) (l frame room out : List ℕ)
       → Only (λ (t : Turn). ServePromise s l frame room out t.served t.links t.room t.out)
-  pub roster-named : (word : List ℕ) → Only (λ (r : Meaning). r ≡ named word)
-  pub roster-is-same : (a b : List ℕ) → Only (λ (r : Bool). r ≡ is_same a b)
+  pub roster-named : (word : List ℕ) → Only (λ (r : Option Kind). r ≡ named word)
   pub roster-bench-of : (kind : Kind) → Only (λ (r : Module). r ≡ bench_of kind)
   pub roster-fresh-at : (kind : Kind) (a : Address) → Only (λ (r : Module). r ≡ fresh_at kind a)
   pub roster-fresh-as : (kind : Kind) (i : Identity) → Only (λ (r : Module). r ≡ fresh_as kind i)

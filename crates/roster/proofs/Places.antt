@@ -9,7 +9,7 @@ use lib.Dec.{ltb}
 use lib.ListN.{length, get_or, take, drop, drop_of_length-le}
 use lib.Seq.{drop-cons}
 use borrow.Author.Tests.{ltb-false}
-use Rattle.std.specs.Prelude.{Option, Some, None, unwrap_or, position}
+use Rattle.std.specs.Prelude.{Some, None, unwrap_or, position}
 use Rattle.std.specs.List.{position_or_len}
 use Rattle.basis.specs.First.{first_from}
 use Rattle.basis.proofs.Laid.{rest}

@@ -3,7 +3,6 @@ use Rattle.std.specs.Prelude.{ℕ, zero, suc, ◌+◌, ◌-◌, Bool, ◌&&◌, 
 use Rattle.basis.specs.Choice.{choose}
 use Rattle.basis.specs.First.{first_from}
 use Rattle.module.specs.declared.state.Module.{Module}
-use Rattle.wire.specs.declared.address.Address.{Address}
 use Rattle.roster.specs.declared.word.Kind.{Kind}
 use Rattle.roster.specs.declared.roster.Roster.{Roster}
 use Rattle.roster.specs.Seat.{fresh_at}

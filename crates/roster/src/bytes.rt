@@ -4,9 +4,8 @@ ghost use Rattle.std.specs.Option.{option_map};
 ghost use Rattle.roster.specs.Words.{words_behind};
 ghost use Rattle.roster.specs.Bytes.{digit_of, byte_of, bytes_of};
 
-use arrayvec::ArrayVec;
-
 use crate::words::{word_end, word_start};
+use arrayvec::ArrayVec;
 
 // No line has more than seven.
 pub(crate) type Bytes = ArrayVec<u8, 7>;

@@ -55,7 +55,11 @@ fn text_start(text: &[u8]) -> usize
     ensures value { result ≡ text_start text.now }
     ensures upper_bound { result ≤ length text.now }
 {
-    if text.starts_with(b"\xef\xbb\xbf") { 3 } else { 0 }
+    if text.starts_with(b"\xef\xbb\xbf") {
+        3
+    } else {
+        0
+    }
 }
 
 // A line ends before 0A, or where the text does.

@@ -1,9 +1,5 @@
-use mathlib.Core.Path.{◌≡◌, sym, ◌∙◌, refl, ap}
-use mathlib.Core.Bool.{Bool, true, false, ◌&&◌}
-use Rattle.std.proofs.Common.{ℕ, List, [], ◌∷◌, ◌==◌, nat_eq}
-use Rattle.std.specs.List.{starts_with}
 use Rattle.basis.specs.Choice.{choose}
-use Rattle.roster.specs.Roster.{is_marked, text_start}
+use Rattle.roster.specs.Roster.{text_start}
 use Rattle.roster.proofs.Marked.{marked}
 use Rattle.roster.proofs.roster.text_start.Goals as goal
 

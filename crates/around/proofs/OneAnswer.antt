@@ -165,7 +165,6 @@ each_once =
       modem-keep = λ _ _. by_value _;
       modem-serve = serving;
       roster-named = λ _. by_value _;
-      roster-is-same = λ _ _. by_value _;
       roster-bench-of = λ _. by_value _;
       roster-fresh-at = λ _ _. by_value _;
       roster-fresh-as = λ _ _. by_value _;

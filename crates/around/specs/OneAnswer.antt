@@ -68,12 +68,10 @@ use Rattle.modem.specs.declared.arrived.Seen.{Seen}
 use Rattle.modem.specs.Arrived.{seek_of}
 use Rattle.modem.specs.Serve.{Turn, ServePromise}
 use Rattle.roster.specs.declared.word.Kind.{Kind}
-use Rattle.roster.specs.declared.word.Meaning.{Meaning}
-use Rattle.roster.specs.declared.line.Line.{Line}
 use Rattle.roster.specs.declared.roster.Roster.{Roster}
-use Rattle.roster.specs.Word.{is_same, named}
+use Rattle.roster.specs.Word.{named}
 use Rattle.roster.specs.Seat.{fresh_as, fresh_at, bench_of}
-use Rattle.roster.specs.Line.{line_of}
+use Rattle.roster.specs.Line.{Line, line_of}
 use Rattle.roster.specs.Roster.{roster_of}
 use Rattle.letters.specs.declared.Line as letters
 use Rattle.letters.specs.Laid.{laid_in, Begins}
@@ -183,8 +181,7 @@ pub record EachOnce : Type 1 where
   pub modem-keep : (held : List ℕ) (from : ℕ) → Only (λ (after : List ℕ). after ≡ laid (drop from held) held)
   pub modem-serve : (s : Seating) (l frame room out : List ℕ)
       → Only (λ (t : Turn). ServePromise s l frame room out t.served t.links t.room t.out)
-  pub roster-named : (word : List ℕ) → Only (λ (r : Meaning). r ≡ named word)
-  pub roster-is-same : (a b : List ℕ) → Only (λ (r : Bool). r ≡ is_same a b)
+  pub roster-named : (word : List ℕ) → Only (λ (r : Option Kind). r ≡ named word)
   pub roster-bench-of : (kind : Kind) → Only (λ (r : Module). r ≡ bench_of kind)
   pub roster-fresh-at : (kind : Kind) (a : Address) → Only (λ (r : Module). r ≡ fresh_at kind a)
   pub roster-fresh-as : (kind : Kind) (i : Identity) → Only (λ (r : Module). r ≡ fresh_as kind i)

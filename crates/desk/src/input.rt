@@ -1,5 +1,5 @@
 // Bytes from files, each read behind those that are there.
-ghost use Rattle.std.specs.Prelude.{◌≡◌, ◌<◌, length, take};
+ghost use Rattle.std.specs.Prelude.{◌≡◌, ◌<◌, length, take, IfSome, IfOk};
 ghost use Rattle.io.specs.Counts.{IsPrefixLen};
 ghost use Rattle.desk.specs.Input.{Grown};
 
@@ -7,77 +7,53 @@ use crate::said::say_failed;
 use std::fs::File;
 use std::io::{Error, ErrorKind, Read};
 
-// How many bytes are there after a read, or why it failed.
-#[derive(Clone, Copy)]
-pub(crate) enum Got {
-    More(usize),
-    End,
-    Failed(Error),
-}
-
-pub(crate) fn read_behind<R: Read>(from: &mut R, bytes: &mut [u8], n: usize) -> Got
+// How many bytes are there after a read, or none where no more come.
+pub(crate) fn read_behind<R: Read>(from: &mut R, bytes: &mut [u8], n: usize) -> Result<Option<usize>, Error>
     requires { n < length bytes.old }
     ensures grown { Grown n (length bytes.old) result }
     ensures bytes_unchanged { take n bytes.new ≡ take n bytes.old }
 {
     match from.read(&mut bytes[n..]) {
-        Ok(0) => Got::End,
-        Ok(more) => Got::More(n + more),
-        Err(error) => Got::Failed(error),
+        Ok(0) => Ok(None),
+        Ok(more) => Ok(Some(n + more)),
+        Err(error) => Err(error),
     }
 }
 
-#[derive(Clone, Copy)]
-pub(crate) struct Loaded {
-    pub size: usize,
-    pub is_fine: bool,
-}
-
-// A file, as far as there is room; where it is missing and not needed, nothing ("The program"). What goes wrong is said.
-pub(crate) fn load(rt: HostRuntime, name: &str, is_needed: bool, bytes: &mut [u8]) -> Loaded
-    ensures { IsPrefixLen result.size bytes.new }
+// How long a file is, as far as there is room; where it is missing and not needed, 0 ("The program"). What goes wrong is said, and
+// nothing is returned.
+pub(crate) fn load(rt: HostRuntime, name: &str, is_needed: bool, bytes: &mut [u8]) -> Option<usize>
+    ensures { IfSome result (λ size. IsPrefixLen size bytes.new) }
 {
     match File::open(&rt, name) {
         Ok(mut file) => fill(rt, name, &mut file, bytes),
         Err(error) => {
-            let is_fine = (error.kind() == ErrorKind::NotFound) & !is_needed;
-            if !is_fine {
-                say_failed(rt, name, error);
+            if (error.kind() == ErrorKind::NotFound) & !is_needed {
+                return Some(0);
             }
-            Loaded {
-                size: 0,
-                is_fine: is_fine,
-            }
+            say_failed(rt, name, error);
+            None
         }
     }
 }
 
-fn fill(rt: HostRuntime, name: &str, file: &mut File, memory: &mut [u8]) -> Loaded
-    ensures { IsPrefixLen result.size memory.new }
+fn fill(rt: HostRuntime, name: &str, file: &mut File, memory: &mut [u8]) -> Option<usize>
+    ensures { IfSome result (λ size. IsPrefixLen size memory.new) }
 {
     let mut n: usize = 0;
     while n < memory.len() {
         match read_behind(file, memory, n) {
-            Got::More(k) => {
+            Ok(Some(k)) => {
                 n = k;
             }
-            Got::End => {
-                return Loaded {
-                    size: n,
-                    is_fine: true,
-                };
+            Ok(None) => {
+                return Some(n);
             }
-            Got::Failed(error) => {
+            Err(error) => {
                 say_failed(rt, name, error);
-                return Loaded {
-                    size: n,
-                    is_fine: false,
-                };
+                return None;
             }
         }
     }
-    Loaded {
-        size: n,
-        is_fine: true,
-    }
+    Some(n)
 }

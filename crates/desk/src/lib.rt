@@ -14,7 +14,7 @@ use roster::seat::bench_of;
 use seating::heed::Seating;
 use seating::start::{alone, class_with};
 use serve::serve_until_end;
-use word::{ClassWish, Wish, asked, asked_of_class, list_class_words, list_words};
+use word::{asked, asked_of_class, list_class_words, list_words};
 
 // What is written for each frame.
 #[derive(Clone, Copy)]
@@ -29,8 +29,8 @@ pub enum Show {
 // error, and nothing is read.
 pub fn sit(rt: HostRuntime) {
     match asked(rt) {
-        Wish::Bench(kind, show) => serve_all(rt, show, alone(bench_of(kind))),
-        Wish::Unknown => list_words(rt),
+        Some(wish) => serve_all(rt, wish.show, alone(bench_of(wish.kind))),
+        None => list_words(rt),
     }
 }
 
@@ -38,26 +38,24 @@ pub fn sit(rt: HostRuntime) {
 // and nothing is served.
 pub fn teach(rt: HostRuntime) {
     match asked_of_class(rt) {
-        ClassWish::Shown(show) => teach_as(rt, show),
-        ClassWish::Unknown => list_class_words(rt),
+        Some(show) => teach_as(rt, show),
+        None => list_class_words(rt),
     }
 }
 
 fn teach_as(rt: HostRuntime, show: Show) {
     // one byte more than is taken, so that a longer file is seen to be too long
     let mut text = [0; 4097];
-    let loaded = load(rt, "row", true, &mut text);
-    if !loaded.is_fine {
+    let Some(n) = load(rt, "row", true, &mut text) else {
         return;
-    }
-    let n = loaded.size;
+    };
     if 4096 < n {
         say_too_long(rt);
         return;
     }
     let roster = roster_of(&text[..n]);
-    if roster.bad != 0 {
-        say_bad_line(rt, roster.bad);
+    if let Some(number) = roster.bad {
+        say_bad_line(rt, number);
         return;
     }
     let row = roster.row;
@@ -68,11 +66,9 @@ fn teach_as(rt: HostRuntime, show: Show) {
 fn serve_all(rt: HostRuntime, show: Show, seating: Seating) {
     // one byte more than sixteen shares have, so that a longer file is seen to be unfit
     let mut memory = [0; 32769];
-    let loaded = load(rt, "links.bin", false, &mut memory);
-    if !loaded.is_fine {
+    let Some(n) = load(rt, "links.bin", false, &mut memory) else {
         return;
-    }
-    let n = loaded.size;
+    };
     // less than one frame ever waits, so a read always has room
     let mut held = [0; 4096];
     let mut room = [0; 5897];

@@ -8,9 +8,6 @@ pub(crate) fn say_failed(rt: HostRuntime, what: &str, error: Error) {
     let mut text = ArrayString::<128>::new();
     let _ = write!(text, "{error}");
     let all = text.as_str();
-    let why = match all.split_once(" (os error ") {
-        Some((why, _)) => why,
-        None => all,
-    };
+    let why = all.split_once(" (os error ").map_or(all, |(why, _)| why);
     let _ = eprintln!(rt; "{what}: {why}");
 }

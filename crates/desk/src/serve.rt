@@ -6,7 +6,7 @@ ghost use Rattle.desk.specs.Passed.{ArrivedPromise, HeldPromise, ReadPromise, En
 
 use crate::Show;
 use crate::answer::{Desk, answer, closed, finish};
-use crate::input::{Got, read_behind};
+use crate::input::read_behind;
 use crate::said::say_failed;
 use modem::arrived::{Seen, keep, seek};
 
@@ -34,11 +34,12 @@ pub(crate) fn serve_until_end(
         desk: desk,
         count: 0,
     };
-    // A proved loop has to end, and input need not: it counts down from a number that no run uses up.
-    let mut turns = u64::MAX;
-    while turns > 0 && p.desk.is_open {
+    // A proved loop has to end, and input need not: it has more turns than any run uses up.
+    for _ in 0..u64::MAX {
+        if !p.desk.is_open {
+            return;
+        }
         p = serve_one_read(rt, show, p, links, held, room, out);
-        turns -= 1;
     }
 }
 
@@ -59,12 +60,12 @@ fn serve_one_read(
 {
     let desk = before.desk;
     match read_behind(&mut rt.stdin(), held, before.count) {
-        Got::More(k) => serve_held(rt, show, desk, links, &mut held[..k], room, out),
-        Got::End => {
+        Ok(Some(k)) => serve_held(rt, show, desk, links, &mut held[..k], room, out),
+        Ok(None) => {
             finish(rt, show, desk, out);
             stopped(before)
         }
-        Got::Failed(error) => {
+        Err(error) => {
             say_failed(rt, "standard input", error);
             stopped(before)
         }

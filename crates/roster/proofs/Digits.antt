@@ -1,16 +1,14 @@
--- Which byte is which digit, and what a word of two is.
-use Prim.Native.Nat.{ℕ, ◌+◌, ◌-◌, ◌≤◌, ◌<◌}
+-- Which byte is which digit.
+use Prim.Native.Nat.{ℕ, ◌+◌, ◌-◌, ◌≤◌}
 use mathlib.Core.Path.{◌≡◌, refl}
 use mathlib.Core.Bool.{Bool, true, false}
-use mathlib.Core.List.{List}
 use native.Mathlib.Omega.{arith}
-use lib.Dec.{eqb, ltb}
-use lib.ListN.{length, get_or}
-use borrow.Author.Tests.{eqb-true, le-leb, leb-true, ltb-true}
+use borrow.Author.Tests.{le-leb, leb-true}
+use Rattle.std.specs.Prelude.{Some, None}
 use Rattle.basis.specs.Choice.{choose}
 use Rattle.basis.specs.Numbers.{within}
 use Rattle.basis.proofs.Tests.{both}
-use Rattle.roster.specs.Bytes.{digit_of, are_digits, is_byte}
+use Rattle.roster.specs.Bytes.{digit_of}
 
 pub inside : (a b x : ℕ) → a ≤ x → x ≤ b → within a b x ≡ true
 inside a b x h k = rw (le-leb a x h, le-leb x b k)
@@ -23,26 +21,18 @@ outside a b x h = go (within a b x) refl
     go false q = q
 
 module _ (x : ℕ) where
-  pub numeral : 0x30 ≤ x → x ≤ 0x39 → digit_of x ≡ x - 0x30
+  pub numeral : 0x30 ≤ x → x ≤ 0x39 → digit_of x ≡ Some (x - 0x30)
   unfolding digit_of choose
   numeral h k = rw (inside 0x30 0x39 x h k)
 
-  pub capital : 0x41 ≤ x → x ≤ 0x46 → digit_of x ≡ x - 0x41 + 10
+  pub capital : 0x41 ≤ x → x ≤ 0x46 → digit_of x ≡ Some (x - 0x41 + 10)
   unfolding digit_of choose
   capital h k = rw (outside 0x30 0x39 x (λ a b. omega arith), inside 0x41 0x46 x h k)
 
-  pub small : 0x61 ≤ x → x ≤ 0x66 → digit_of x ≡ x - 0x61 + 10
+  pub small : 0x61 ≤ x → x ≤ 0x66 → digit_of x ≡ Some (x - 0x61 + 10)
   unfolding digit_of choose
   small h k = rw (outside 0x30 0x39 x (λ a b. omega arith), outside 0x41 0x46 x (λ a b. omega arith), inside 0x61 0x66 x h k)
 
-  pub none : (0x30 ≤ x → x ≤ 0x39 → ⊥) → (0x41 ≤ x → x ≤ 0x46 → ⊥) → (0x61 ≤ x → x ≤ 0x66 → ⊥) → digit_of x ≡ 16
+  pub none : (0x30 ≤ x → x ≤ 0x39 → ⊥) → (0x41 ≤ x → x ≤ 0x46 → ⊥) → (0x61 ≤ x → x ≤ 0x66 → ⊥) → digit_of x ≡ None
   unfolding digit_of choose
   none f g h = rw (outside 0x30 0x39 x f, outside 0x41 0x46 x g, outside 0x61 0x66 x h)
-
--- a byte has two digits
-pub digits : (w : List ℕ) → is_byte w ≡ true → (length w ≡ 2) × (digit_of (get_or w 0 0) < 16) × (digit_of (get_or w 1 0) < 16)
-unfolding is_byte
-digits w h =
-    let p = both (eqb (length w) 2) (are_digits w) h in
-    let q = both (ltb (digit_of (get_or w 0 0)) 16) (ltb (digit_of (get_or w 1 0)) 16) p.1 in
-    (eqb-true (length w) 2 p.0, ltb-true _ 16 q.0, ltb-true _ 16 q.1)

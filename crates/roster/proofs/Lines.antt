@@ -6,14 +6,12 @@ use native.Mathlib.Omega.{arith}
 use lib.Dec.{ltb}
 use lib.ListN.{length}
 use borrow.Author.Tests.{lt-ltb, le-ltb, ltb-true}
+use Rattle.std.specs.Prelude.{Some, None, Ok, Err}
 use Rattle.basis.specs.Choice.{choose}
 use Rattle.basis.proofs.Choice.{by}
-use Rattle.module.specs.declared.state.Module.{Module}
-use Rattle.roster.specs.declared.line.Reading.{Reading}
-use Rattle.roster.specs.declared.line.Line.{Line}
 use Rattle.roster.specs.declared.roster.Roster.{Roster}
-use Rattle.roster.specs.Line.{line_of}
-use Rattle.roster.specs.Roster.{text_start, ends_at, line_end, line_next, line_at, empty_roster, with_reading, with_line, roster_from, roster_of}
+use Rattle.roster.specs.Line.{Line, line_of}
+use Rattle.roster.specs.Roster.{text_start, ends_at, line_end, line_next, line_at, empty_roster, with_line, roster_from, roster_of}
 use Rattle.roster.proofs.Places.{bounds}
 
 -- a line ends in the text, not before it begins
@@ -46,10 +44,10 @@ done zero s i k r h = refl
 done (suc n) s i k r h = rw (le-ltb i (length s) h)
 
 -- a line names one module or none
-counts_on : (reading : Reading) (m : Module) (number : ℕ) (r : Roster) → (with_reading reading m number r).count ≤ r.count + 1
-counts_on Reading.Nothing m number r = omega arith
-counts_on Reading.Seat m number r = omega arith
-counts_on Reading.Refused m number r = omega arith
+counts_on : (r : Roster) (number : ℕ) (line : Line) → (with_line r number line).count ≤ r.count + 1
+counts_on r number (Ok None) = omega arith
+counts_on r number (Ok (Some m)) = omega arith
+counts_on r number (Err e) = omega arith
 
 -- what is read of the text up to a place, which is k lines
 pub record Read (s : List ℕ) (i k : ℕ) (r : Roster) : Type 0 where
@@ -79,7 +77,7 @@ module _ (s : List ℕ) (i k : ℕ) (r : Roster) where
           record {
             inside = on.1;
             numbered = omega (arith, p.numbered, on.0);
-            counted = omega (arith, p.counted, counts_on line.reading line.«module» (k + 1) r);
+            counted = omega (arith, p.counted, counts_on r (k + 1) line);
             left = n;
             enough = omega (arith, on.0);
             gives = sym (goes_on n s i k r h) ∙ gives;

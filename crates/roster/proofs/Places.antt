@@ -1,9 +1,18 @@
 -- A search from place to place: what is left to look at from place k on ends where the whole search does.
-use Prim.Native.Nat.{ℕ, pred, ◌+◌, ◌-◌, ◌≤◌, ◌<◌}
-use mathlib.Core.Path.{◌≡◌, refl, sym, ◌∙◌}
-use mathlib.Core.Bool.{Bool, true, false}
+use Prim.Native.Nat.{ℕ, zero, suc, pred, ◌+◌, ◌-◌, ◌≤◌, ◌<◌}
+use mathlib.Core.Path.{◌≡◌, refl, sym, ◌∙◌, ap}
+use mathlib.Core.Bool.{Bool, true, false, cond, not}
+use mathlib.Core.List.{List, [], ◌∷◌}
+use native.Mathlib.Nat.{add-zero}
 use native.Mathlib.Omega.{arith}
+use lib.Dec.{ltb}
+use lib.ListN.{length, get_or, take, drop, drop_of_length-le}
+use lib.Seq.{drop-cons}
+use borrow.Author.Tests.{ltb-false}
+use Rattle.std.specs.Prelude.{Some, None, unwrap_or, position}
+use Rattle.std.specs.List.{position_or_len}
 use Rattle.basis.specs.First.{first_from}
+use Rattle.basis.proofs.Laid.{rest}
 use Rattle.basis.proofs.First.{none, here, later, Told, at, nowhere, told}
 
 -- among the places from i up to n
@@ -34,3 +43,47 @@ module _ (P : ℕ → Bool) (n i : ℕ) where
 
     pub ended : n ≤ k → k ≡ first_from P (n - i) i
     ended h = let q : n - k ≡ 0 = omega arith in sym (none P k) ∙ rw q at p.gives
+
+-- of the bytes from place i on: how many stand before the first that passes, which are all where none does
+module _ (t : ℕ → Bool) (s : List ℕ) where
+  abbrev passes : ℕ → Bool
+  passes k = t (get_or s k 0)
+
+  counted : (n i : ℕ) → i + n ≡ length s → i + position_or_len t (drop i s) ≡ first_from passes n i
+  counted zero i e = let h : length s ≤ i = omega arith in rw (drop_of_length-le s h) (add-zero i ∙ sym (none passes i))
+  counted (suc n) i e =
+      let h : i < length s = omega arith in
+      let far : suc i + n ≡ length s = omega arith in
+      rw (drop-cons s i 0 h) (go (t (get_or s i 0)) refl (counted n (suc i) far))
+    where
+      go : (b : Bool) → t (get_or s i 0) ≡ b → suc i + position_or_len t (drop (suc i) s) ≡ first_from passes n (suc i)
+          → i + cond (not b) (1 + position_or_len t (drop (suc i) s)) 0 ≡ first_from passes (suc n) i
+      go true q ih = add-zero i ∙ sym (here passes (suc n) i (omega arith) q)
+      go false q ih =
+          let next : suc i ≡ i + 1 = omega arith in
+          let first : i + (1 + position_or_len t (drop (suc i) s)) ≡ suc i + position_or_len t (drop (suc i) s) = omega arith in
+          first ∙ ih ∙ ap (λ (z : ℕ). first_from passes n z) next ∙ sym (later passes (suc n) i (omega arith) q)
+
+  few : (xs : List ℕ) → position_or_len t xs ≤ length xs
+  few [] = omega arith
+  few (x ∷ xs) = go (t x) (few xs)
+    where
+      go : (b : Bool) → position_or_len t xs ≤ length xs → cond (not b) (1 + position_or_len t xs) 0 ≤ suc (length xs)
+      go true h = omega arith
+      go false h = omega arith
+
+  whole : (xs : List ℕ) → unwrap_or (position t xs) (length xs) ≡ position_or_len t xs
+  whole xs = go (ltb (position_or_len t xs) (length xs)) refl
+    where
+      go : (b : Bool) → ltb (position_or_len t xs) (length xs) ≡ b → unwrap_or (cond b (Some (position_or_len t xs)) None) (length xs) ≡ position_or_len t xs
+      go true q = refl
+      go false q = let h = few xs in let k = ltb-false (position_or_len t xs) (length xs) q in omega arith
+
+  -- the first place from i on where one passes
+  pub place : (i n : ℕ) → i ≤ length s → n ≡ unwrap_or (position t (take (length s - i) (drop i s))) (length (take (length s - i) (drop i s)))
+      → i + n ≡ first_from passes (length s - i) i
+  place i n h e =
+      let far : i + (length s - i) ≡ length s = omega arith in
+      let part : n ≡ position_or_len t (drop i s) =
+      e ∙ whole (take (length s - i) (drop i s)) ∙ ap (position_or_len t) (rest i s) in
+      ap (λ (z : ℕ). i + z) part ∙ counted (length s - i) i far

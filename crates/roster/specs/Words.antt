@@ -14,11 +14,14 @@ bare_length s = first (stops_at s) (length s)
 abbrev pub is_blank : ℕ → Bool
 is_blank x = eqb x 0x20 || eqb x 0x09
 
+abbrev pub is_ink : ℕ → Bool
+is_ink x = not (is_blank x)
+
 abbrev pub blank_at : List ℕ → ℕ → Bool
 blank_at s k = is_blank (get_or s k 0)
 
 abbrev pub ink_at : List ℕ → ℕ → Bool
-ink_at s k = not (blank_at s k)
+ink_at s k = is_ink (get_or s k 0)
 
 -- a word is as long as it can be: from a place on it begins where no blank is, and ends before the next blank or with the line
 unfoldable pub word_start : List ℕ → ℕ → ℕ

@@ -1,80 +1,51 @@
 // Words that are bytes, as in `00 10 3A`.
-ghost use Rattle.std.specs.Prelude.{◌≡◌, true, ◌≤◌, length};
+ghost use Rattle.std.specs.Prelude.{◌≡◌, ◌<◌, ◌≤◌, length, IfSome};
+ghost use Rattle.std.specs.Option.{option_map};
 ghost use Rattle.roster.specs.Words.{words_behind};
-ghost use Rattle.roster.specs.Bytes.{digit_of, is_byte, byte_of, no_bytes, bytes_of};
+ghost use Rattle.roster.specs.Bytes.{digit_of, byte_of, bytes_of};
 
 use crate::words::{word_end, word_start};
+use arrayvec::ArrayVec;
 
-// Zeros stand behind the first `count`.
-#[derive(Clone, Copy)]
-pub(crate) struct Bytes {
-    pub(crate) bytes: [u8; 7],
-    pub(crate) count: usize,
-}
+// No line has more than seven.
+pub(crate) type Bytes = ArrayVec<u8, 7>;
 
-// All words from a place on; no line has more than seven bytes.
-pub(crate) fn bytes_behind(line: &[u8], from: usize) -> Bytes
+// All words from a place on; none where one of them is no byte, or where there are too many.
+pub(crate) fn bytes_behind(line: &[u8], from: usize) -> Option<Bytes>
     requires { from ≤ length line.now }
-    ensures { result ≡ bytes_of (words_behind line.now from) }
+    ensures { option_map (λ bytes. bytes.items) result ≡ bytes_of (words_behind line.now from) }
 {
-    let mut bytes: [u8; 7] = [0; 7];
-    let mut n: usize = 0;
-    let mut at = from;
-    loop {
-        let start = word_start(line, at);
-        if start >= line.len() {
-            return Bytes {
-                bytes: bytes,
-                count: n,
-            };
+    let mut bytes = Bytes::new();
+    let mut at = word_start(line, from);
+    while at < line.len() {
+        let end = word_end(line, at);
+        let byte = byte_of(&line[at..end])?;
+        if bytes.is_full() {
+            return None;
         }
-        let end = word_end(line, start);
-        let word = &line[start..end];
-        if n >= 7 {
-            return no_bytes();
-        }
-        if !is_byte(word) {
-            return no_bytes();
-        }
-        bytes[n] = byte_of(word);
-        n += 1;
-        at = end;
+        bytes.push(byte);
+        at = word_start(line, end);
     }
+    Some(bytes)
 }
 
-fn no_bytes() -> Bytes
-    ensures { result ≡ no_bytes }
-{
-    Bytes {
-        bytes: [0; 7],
-        count: 0,
-    }
-}
-
-fn is_byte(word: &[u8]) -> bool
-    ensures { result ≡ is_byte word.now }
-{
-    if word.len() != 2 {
-        return false;
-    }
-    (digit_of(word[0]) < 16) & (digit_of(word[1]) < 16)
-}
-
-fn byte_of(word: &[u8]) -> u8
-    requires { is_byte word.now ≡ true }
+fn byte_of(word: &[u8]) -> Option<u8>
     ensures { result ≡ byte_of word.now }
 {
-    digit_of(word[0]) * 16 + digit_of(word[1])
+    match *word {
+        [high, low] => Some(digit_of(high)? * 16 + digit_of(low)?),
+        _ => None,
+    }
 }
 
-// 16 where it is no digit.
-fn digit_of(x: u8) -> u8
-    ensures { result ≡ digit_of x }
+fn digit_of(x: u8) -> Option<u8>
+    ensures value { result ≡ digit_of x }
+    ensures upper_bound { IfSome result (λ digit. digit < 16) }
 {
     match x {
-        b'0'..=b'9' => x - b'0',
-        b'A'..=b'F' => x - b'A' + 10,
-        b'a'..=b'f' => x - b'a' + 10,
-        _ => 16,
+        b'0'..=b'9' => Some(x - b'0'),
+        b'A'..=b'F' => Some(x - b'A' + 10),
+        b'a'..=b'f' => Some(x - b'a' + 10),
+        _ => None,
     }
 }

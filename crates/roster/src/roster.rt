@@ -1,9 +1,12 @@
 // The row of a class, line after line.
-ghost use Rattle.std.specs.Prelude.{◌≡◌, ◌-◌, ◌^◌, ◌≤◌, ◌<◌, length};
-ghost use Rattle.roster.specs.Roster.{text_start, line_end, line_next, empty_roster, with_seat, one_more, bad_after, refused, with_line, roster_of};
+ghost use Rattle.std.specs.Prelude.{◌≡◌, ◌-◌, ◌^◌, ◌≤◌, ◌<◌, length, position, IfSome};
+ghost use Rattle.roster.specs.Roster.{text_start, is_end, line_end, line_next, empty_roster, with_seat, one_more, refused, with_line, roster_of};
 
-use crate::line::{Line, Reading, line_of, nobody};
+use crate::line::{BadLine, line_of};
+use crate::seat::fresh_at;
+use crate::word::Kind;
 use module::state::Module;
+use wire::address::Address;
 
 #[derive(Clone, Copy)]
 pub struct Roster {
@@ -11,8 +14,8 @@ pub struct Roster {
     pub row: [Module; 16],
     // How many modules there are.
     pub count: usize,
-    // The number of the first line that is bad, of all lines of the text and counted from 1; 0 where none is.
-    pub bad: usize,
+    // The number of the first line that is bad, of all lines of the text and counted from 1.
+    pub bad: Option<usize>,
 }
 
 pub fn roster_of(text: &[u8]) -> Roster
@@ -34,11 +37,16 @@ pub fn roster_of(text: &[u8]) -> Roster
 fn empty_roster() -> Roster
     ensures { result ≡ empty_roster }
 {
-    let blank = nobody();
+    let blank = Address {
+        high: 0,
+        middle: 0,
+        low: 0,
+    };
+    let nobody = fresh_at(Kind::Dimmer, blank);
     Roster {
-        row: [blank; 16],
+        row: [nobody; 16],
         count: 0,
-        bad: 0,
+        bad: None,
     }
 }
 
@@ -47,10 +55,7 @@ fn text_start(text: &[u8]) -> usize
     ensures value { result ≡ text_start text.now }
     ensures upper_bound { result ≤ length text.now }
 {
-    if text.len() < 3 {
-        return 0;
-    }
-    if (text[0] == 0xef) & (text[1] == 0xbb) & (text[2] == 0xbf) {
+    if text.starts_with(b"\xef\xbb\xbf") {
         3
     } else {
         0
@@ -62,14 +67,15 @@ fn line_end(text: &[u8], at: usize) -> usize
     requires { at ≤ length text.now }
     ensures { result ≡ line_end text.now at }
 {
-    let mut k = at;
-    while k < text.len() {
-        if text[k] == 0x0a {
-            return k;
-        }
-        k += 1;
-    }
-    k
+    let behind = &text[at..];
+    at + first_end(behind).unwrap_or(behind.len())
+}
+
+fn first_end(text: &[u8]) -> Option<usize>
+    ensures value { result ≡ position is_end text.now }
+    ensures upper_bound { IfSome result (λ n. n < length text.now) }
+{
+    text.iter().position(|x| *x == b'\n')
 }
 
 fn line_next(text: &[u8], end: usize) -> usize
@@ -82,16 +88,14 @@ fn line_next(text: &[u8], end: usize) -> usize
     }
 }
 
-fn with_line(r: Roster, number: usize, line: Line) -> Roster
+fn with_line(r: Roster, number: usize, line: Result<Option<Module>, BadLine>) -> Roster
     requires { r.count < 2 ^ 64 - 1 }
     ensures { result ≡ with_line r number line }
 {
-    let m = line.module;
-    let reading = line.reading;
-    match reading {
-        Reading::Nothing => r,
-        Reading::Seat => one_more(r, m),
-        Reading::Refused => refused(r, number),
+    match line {
+        Ok(None) => r,
+        Ok(Some(m)) => one_more(r, m),
+        Err(_) => refused(r, number),
     }
 }
 
@@ -100,12 +104,10 @@ fn one_more(r: Roster, m: Module) -> Roster
     requires { r.count < 2 ^ 64 - 1 }
     ensures { result ≡ one_more r m }
 {
-    let row = r.row;
-    let after = with_seat(row, r.count, m);
     Roster {
-        row: after,
+        row: with_seat(r.row, r.count, m),
         count: r.count + 1,
-        bad: r.bad,
+        ..r
     }
 }
 
@@ -122,16 +124,8 @@ fn with_seat(row: [Module; 16], i: usize, m: Module) -> [Module; 16]
 fn refused(r: Roster, number: usize) -> Roster
     ensures { result ≡ refused r number }
 {
-    let row = r.row;
     Roster {
-        row: row,
-        count: r.count,
-        bad: bad_after(r.bad, number),
+        bad: r.bad.or(Some(number)),
+        ..r
     }
-}
-
-fn bad_after(bad: usize, number: usize) -> usize
-    ensures { result ≡ bad_after bad number }
-{
-    if bad == 0 { number } else { bad }
 }

@@ -1,6 +1,6 @@
 // The words that name a kind of module.
 ghost use Rattle.std.specs.Prelude.{◌≡◌};
-ghost use Rattle.roster.specs.Word.{is_same, named, small_of, small_letters};
+ghost use Rattle.roster.specs.Word.{kind_by, named, small_letters};
 
 #[derive(Clone, Copy)]
 pub enum Kind {
@@ -8,75 +8,31 @@ pub enum Kind {
     Outlet,
 }
 
-#[derive(Clone, Copy)]
-pub enum Meaning {
-    Kind(Kind),
-    Unknown,
-}
-
-pub fn named(word: &[u8]) -> Meaning
+pub fn named(word: &[u8]) -> Option<Kind>
     ensures { result ≡ named word.now }
 {
-    if is_same(word, b"dimmer") {
-        return Meaning::Kind(Kind::Dimmer);
-    }
-    if is_same(word, b"outlet") {
-        return Meaning::Kind(Kind::Outlet);
-    }
-    Meaning::Unknown
+    kind_by(word == b"dimmer".as_slice(), word == b"outlet".as_slice())
 }
 
-pub fn is_same(a: &[u8], b: &[u8]) -> bool
-    ensures { result ≡ is_same a.now b.now }
-{
-    if a.len() != b.len() {
-        return false;
-    }
-    let mut i: usize = 0;
-    while i < a.len() {
-        if a[i] != b[i] {
-            return false;
-        }
-        i += 1;
-    }
-    true
-}
-
-// In a file a pupil may write `Dimmer`.
-pub(crate) fn named_any(word: &[u8]) -> Meaning
+// In a file a pupil may write `Dimmer`: capital letters count as small ones.
+pub(crate) fn named_any(word: &[u8]) -> Option<Kind>
     ensures { result ≡ named (small_letters word.now) }
 {
-    if is_alike(word, b"dimmer") {
-        return Meaning::Kind(Kind::Dimmer);
-    }
-    if is_alike(word, b"outlet") {
-        return Meaning::Kind(Kind::Outlet);
-    }
-    Meaning::Unknown
+    kind_by(
+        word.eq_ignore_ascii_case(b"dimmer"),
+        word.eq_ignore_ascii_case(b"outlet"),
+    )
 }
 
-// Capital letters count as small ones.
-fn is_alike(a: &[u8], b: &[u8]) -> bool
-    ensures { result ≡ is_same (small_letters a.now) b.now }
+// By whether it has the dimmer's name, and whether it has the outlet's.
+fn kind_by(is_dimmer: bool, is_outlet: bool) -> Option<Kind>
+    ensures { result ≡ kind_by is_dimmer is_outlet }
 {
-    if a.len() != b.len() {
-        return false;
-    }
-    let mut i: usize = 0;
-    while i < a.len() {
-        if small_of(a[i]) != b[i] {
-            return false;
-        }
-        i += 1;
-    }
-    true
-}
-
-fn small_of(x: u8) -> u8
-    ensures { result ≡ small_of x }
-{
-    match x {
-        b'A'..=b'Z' => x + 0x20,
-        _ => x,
+    if is_dimmer {
+        Some(Kind::Dimmer)
+    } else if is_outlet {
+        Some(Kind::Outlet)
+    } else {
+        None
     }
 }

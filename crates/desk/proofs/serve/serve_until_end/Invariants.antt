@@ -3,14 +3,11 @@ use Rattle.std.proofs.Common.{◌≡◌, length}
 use Rattle.desk.specs.Passed.{ReadPromise}
 use Rattle.desk.proofs.serve.serve_until_end.Given as goal
 
-abbrev pub invariant-loop-turns : goal.invariant-loop-turns
-invariant-loop-turns l =
+abbrev pub invariant-loop : goal.invariant-loop
+invariant-loop l =
     record {
       same_held : length l.held ≡ length l.initial.held;
       same_room : length l.room ≡ length l.initial.room;
       same_out : length l.out ≡ length l.initial.out;
       read : ReadPromise l.initial.p l.initial.links l.initial.room l.initial.held l.p l.links l.held;
     }
-
-abbrev pub decreases-loop-turns : goal.decreases-loop-turns
-decreases-loop-turns l = l.turns

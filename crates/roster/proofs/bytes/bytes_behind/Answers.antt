@@ -1,66 +1,59 @@
-use Prim.Native.Nat.{ℕ, ◌≤◌, ◌<◌}
-use mathlib.Core.Path.{◌≡◌, sym, ◌∙◌}
-use mathlib.Core.Bool.{false}
-use mathlib.Core.List.{List}
+use mathlib.Core.Path.{sym, ◌∙◌}
 use native.Mathlib.Omega.{arith}
-use lib.ListN.{length}
-use Rattle.roster.specs.Words.{word_start, word_end, word_at}
-use Rattle.roster.specs.Bytes.{is_byte}
-use Rattle.roster.proofs.Parted.{starts, ends_there}
-use Rattle.roster.proofs.Taken.{nothing_taken, all_taken, word-taken, no_more, other_word}
+use borrow.Author.Tests.{eqb-true, eqb-false}
+use Rattle.roster.proofs.Parted.{starts}
+use Rattle.roster.proofs.Taken.{nothing_taken, all_read, full, lies, no_digits, next_read}
 use Rattle.roster.proofs.bytes.bytes_behind.Goals as goal
 
--- where a word begins before the line's end, it ends behind its start and inside the line
-within : (line : List ℕ) (at start end : ℕ) → start ≡ word_start line at → start < length line → end ≡ word_end line start → (start < end) × (end ≤ length line)
-within line at start end e h f = let w = ends_there line at start e h in (omega arith, omega arith)
+pub loop-at-init : goal.loop-at-init
+loop-at-init c =
+    record {
+      behind = c.args.from;
+      begins = c.word_start-at.ensures;
+      taken = rw c.new-bytes.ensures (nothing_taken c.args.line.now c.args.from c.requires);
+    }
 
-pub loop-bytes-init : goal.loop-bytes-init
-loop-bytes-init c = nothing_taken _ _ (omega arith)
-
-pub returns-then-start-line : goal.returns-then-start-line
-returns-then-start-line c =
-    let t = c.loop-bytes in
-    all_taken _ _ t.at t.n t.bytes t.invariant (omega (arith, c.word_start-start.ensures, c.if-start-line.true))
-
-pub slice_bounds-word-count : goal.slice_bounds-word-count
-slice_bounds-word-count c =
-    let w = within c.args.line.now c.loop-bytes.at _ _ c.word_start-start.ensures (omega (arith, c.if-start-line.false)) c.word_end-end.ensures in
+pub slice_bounds-byte_of-count : goal.slice_bounds-byte_of-count
+slice_bounds-byte_of-count c =
+    let t = c.loop-at in
+    let w = lies _ _ t.at _ t.invariant (omega (arith, c.loop-at-test.true)) _ c.word_end-end.ensures in
     omega (arith, w.0)
 
-pub slice_bounds-word-start : goal.slice_bounds-word-start
-slice_bounds-word-start c =
-    let w = within c.args.line.now c.loop-bytes.at _ _ c.word_start-start.ensures (omega (arith, c.if-start-line.false)) c.word_end-end.ensures in
+pub slice_bounds-byte_of-start : goal.slice_bounds-byte_of-start
+slice_bounds-byte_of-start c =
+    let t = c.loop-at in
+    let w = lies _ _ t.at _ t.invariant (omega (arith, c.loop-at-test.true)) _ c.word_end-end.ensures in
     omega (arith, w.0)
 
-pub slice_bounds-word-end : goal.slice_bounds-word-end
-slice_bounds-word-end c =
-    let w = within c.args.line.now c.loop-bytes.at _ _ c.word_start-start.ensures (omega (arith, c.if-start-line.false)) c.word_end-end.ensures in
+pub slice_bounds-byte_of-end : goal.slice_bounds-byte_of-end
+slice_bounds-byte_of-end c =
+    let t = c.loop-at in
+    let w = lies _ _ t.at _ t.invariant (omega (arith, c.loop-at-test.true)) _ c.word_end-end.ensures in
     w.1
 
-pub returns-then-n-ge7 : goal.returns-then-n-ge7
-returns-then-n-ge7 c =
-    let t = c.loop-bytes in
-    c.no_bytes.ensures ∙ no_more _ _ t.at t.n t.bytes t.invariant (omega (arith, c.word_start-start.ensures, c.if-start-line.false)) (omega (arith, c.if-n-ge7.true))
+pub returns-in_err-byte : goal.returns-in_err-byte
+returns-in_err-byte c =
+    let t = c.loop-at in
+    rw c.from_residual.ensures
+    (no_digits _ _ t.at _ t.invariant (omega (arith, c.loop-at-test.true)) _ c.word_end-end.ensures c.in_err-byte.ensures)
 
-pub returns-then-not-is_byte : goal.returns-then-not-is_byte
-returns-then-not-is_byte c =
-    let t = c.loop-bytes in
-    let line = c.args.line.now in
-    let word : is_byte (word_at line (word_start line t.at)) ≡ false =
-    rw (← c.word_start-start.ensures, ← c.word_end-end.ensures) (sym c.is_byte.ensures ∙ c.if-not-is_byte.true) in
-    c.no_bytes-then-not-is_byte.ensures ∙ other_word _ _ t.at t.n t.bytes t.invariant (omega (arith, c.word_start-start.ensures, c.if-start-line.false)) word
+pub returns-then-is_full : goal.returns-then-is_full
+returns-then-is_full c =
+    let t = c.loop-at in
+    full _ _ t.at _ t.invariant (omega (arith, c.loop-at-test.true)) (omega (arith, eqb-true _ 7 (sym c.is_full.ensures.value ∙ c.if-is_full.true)))
 
-pub loop-bytes-smaller : goal.loop-bytes-smaller
-loop-bytes-smaller c =
-    let line = c.args.line.now in
-    let at = c.loop-bytes.at in
-    let w = within line at _ _ c.word_start-start.ensures (omega (arith, c.if-start-line.false)) c.word_end-end.ensures in
-    let g = starts line at c.loop-bytes.invariant.inside in
-    omega (arith, w.0, w.1, c.word_start-start.ensures)
+pub loop-at-smaller : goal.loop-at-smaller
+loop-at-smaller c =
+    let t = c.loop-at in
+    let w = lies _ _ t.at _ t.invariant (omega (arith, c.loop-at-test.true)) _ c.word_end-end.ensures in
+    let g = starts c.args.line.now c.word_end-end.result w.1 in
+    omega (arith, w.0, g.0, c.word_start-at-in-loop-at.ensures, c.loop-at-test.true)
 
-pub loop-bytes-preserved : goal.loop-bytes-preserved
-loop-bytes-preserved c =
-    let t = c.loop-bytes in
-    let is_there = sym c.is_byte.ensures ∙ c.if-not-is_byte.false in
-    rw (c.byte_of.ensures, c.word_end-end.ensures, c.word_start-start.ensures)
-    (word-taken _ _ t.at t.n t.bytes t.invariant (omega (arith, c.word_start-start.ensures, c.if-start-line.false)) (omega (arith, c.if-n-ge7.false)) (rw (c.word_end-end.ensures, c.word_start-start.ensures) at is_there))
+pub loop-at-preserved : goal.loop-at-preserved
+loop-at-preserved c =
+    let t = c.loop-at in
+    next_read _ _ t.at _ t.invariant (omega (arith, c.loop-at-test.true)) _ c.word_end-end.ensures c.in_ok-byte.byte c.in_ok-byte.ensures
+    (omega (arith, eqb-false _ 7 (sym c.is_full.ensures.value ∙ c.if-is_full.false), c.is_full.ensures.fits)) _ c.word_start-at-in-loop-at.ensures _ c.push.ensures.items
+
+pub returns : goal.returns
+returns c = let t = c.loop-at in all_read _ _ t.at _ t.invariant (omega (arith, c.loop-at-test.false))

@@ -1,6 +1,6 @@
 -- Its words are those of what stands before the comment; the first says the kind.
 use Prim.Native.Nat.{ℕ, suc, ◌-◌, ◌≤◌, ◌<◌}
-use mathlib.Core.Path.{◌≡◌, sym, ◌∙◌}
+use mathlib.Core.Path.{◌≡◌, sym, ◌∙◌, ap}
 use mathlib.Core.List.{List}
 use native.Mathlib.Omega.{arith}
 use lib.ListN.{length, take, drop}
@@ -8,7 +8,7 @@ use lib.Seq.{length-take-le}
 use Rattle.roster.specs.Word.{small_letters, named}
 use Rattle.roster.specs.Words.{bare_length, word_start, word_end, words_behind}
 use Rattle.roster.specs.Bytes.{bytes_of}
-use Rattle.roster.specs.Line.{empty_line, line_for, line_by, line_of}
+use Rattle.roster.specs.Line.{empty_line, line_as, line_for, line_by, line_of}
 use Rattle.roster.proofs.Parted.{bare_inside, ends_there, one_word, no_word, enough}
 use Rattle.roster.proofs.line.line_of.Goals as goal
 
@@ -44,7 +44,7 @@ pub returns-then-start-n : goal.returns-then-start-n
 returns-then-start-n c =
     let n = c.bare_length-n in
     let start = c.word_start-start.ensures in
-    c.empty_line.ensures ∙ sym (wordless _ n.result n.ensures (omega (arith, c.if-start-n.true)))
+    sym (wordless _ n.result n.ensures (omega (arith, c.if-start-n.true)))
 
 pub word_end-end-requires : goal.word_end-end-requires
 word_end-end-requires c =
@@ -76,14 +76,20 @@ bytes_behind-requires c =
     let w = within c.args.line.now n.result n.ensures _ _ c.word_start-start.ensures c.if-start-n.false c.word_end-end.ensures in
     w.1
 
-pub returns-in-Kind : goal.returns-in-Kind
-returns-in-Kind c =
+pub returns-in_default : goal.returns-in_default
+returns-in_default c =
     let n = c.bare_length-n in
     let told = worded c.args.line.now n.result n.ensures _ _ c.word_start-start.ensures c.if-start-n.false c.word_end-end.ensures in
-    rw (told, ← c.named_any.ensures, c.in-Kind.is, ← c.bytes_behind.ensures) c.line_as.ensures
+    rw (told, ← c.in_default.ensures)
 
-pub returns-in-Unknown : goal.returns-in-Unknown
-returns-in-Unknown c =
+pub returns-in_default-bytes_behind : goal.returns-in_default-bytes_behind
+returns-in_default-bytes_behind c =
     let n = c.bare_length-n in
     let told = worded c.args.line.now n.result n.ensures _ _ c.word_start-start.ensures c.if-start-n.false c.word_end-end.ensures in
-    rw (told, ← c.named_any.ensures, c.in-Unknown.is) c.bad_line.ensures
+    rw (told, ← c.in-Some.ensures, ← c.in_default-bytes_behind.ensures)
+
+pub returns : goal.returns
+returns c =
+    let n = c.bare_length-n in
+    let told = worded c.args.line.now n.result n.ensures _ _ c.word_start-start.ensures c.if-start-n.false c.word_end-end.ensures in
+    rw (told, ← c.in-Some.ensures, ← c.in-Some-bytes_behind.ensures) (c.line_as.ensures ∙ ap (line_as c.in-Some.kind) c.deref.ensures.0)

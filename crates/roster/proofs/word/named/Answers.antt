@@ -1,16 +1,12 @@
-use mathlib.Core.Path.{sym, ◌∙◌}
-use Rattle.basis.specs.Choice.{choose}
-use Rattle.roster.specs.Word.{named}
+use Rattle.std.proofs.Common.{◌≡◌, ◌∙◌, ap}
+use Rattle.std.specs.Str.{bytes_eq}
+use Rattle.roster.specs.Word.{dimmer, outlet, kind_by, named}
 use Rattle.roster.proofs.word.named.Goals as goal
 
-pub returns-then-is_same : goal.returns-then-is_same
-unfolding named choose
-returns-then-is_same c = rw (sym c.is_same.ensures ∙ c.if-is_same.true)
-
-pub returns-then-is_same-2 : goal.returns-then-is_same-2
-unfolding named choose
-returns-then-is_same-2 c = rw (sym c.is_same.ensures ∙ c.if-is_same.false, sym c.is_same-2.ensures ∙ c.if-is_same-2.true)
-
 pub returns : goal.returns
-unfolding named choose
-returns c = rw (sym c.is_same.ensures ∙ c.if-is_same.false, sym c.is_same-2.ensures ∙ c.if-is_same-2.false)
+unfolding named
+returns c =
+    let w = c.args.word.now in
+    let a : c.eq.result ≡ bytes_eq w dimmer = c.eq.ensures ∙ ap (bytes_eq w) c.as_slice.ensures in
+    let b : c.eq-2.result ≡ bytes_eq w outlet = c.eq-2.ensures ∙ ap (bytes_eq w) c.as_slice-2.ensures in
+    c.kind_by.ensures ∙ (λ i. kind_by (a i) (b i))

@@ -1,8 +1,8 @@
 // One frame: answered, told, and counted.
-ghost use Rattle.std.specs.Prelude.{◌≡◌, ◌+◌};
+ghost use Rattle.std.specs.Prelude.{◌≡◌};
 ghost use Rattle.io.specs.Counts.{IsPrefixLen};
 ghost use Rattle.modem.specs.Frames.{framed};
-ghost use Rattle.desk.specs.Tally.{counted_at, counted_for, counted_as};
+ghost use Rattle.desk.specs.Tally.{counted_at, counted_as};
 ghost use Rattle.desk.specs.Desk.{fresh_desk, closed_of, AnswerPromise, Handed};
 
 use crate::Show;

@@ -99,6 +99,7 @@ fn shown_at(s: &Seating, i: usize) -> Option<LoadShown>
     }
 }
 
+// Stays a function: a `From` between two types of other crates cannot stand here, and `names` knows no module.
 fn load_shown(load: Load) -> LoadShown
     ensures { result ≡ shown_of load }
 {

@@ -94,7 +94,7 @@ fn module_command(command: ModuleCommand) -> &'static str {
     }
 }
 
-// An outlet has three of them.
+// A command to a load stays a byte, as the kinds' tables have it: no enum lists them. An outlet has three of them.
 fn load_command(command1: u8, load: Option<LoadShown>) -> &'static str {
     match (command1, load) {
         (0x11, _) => "on",

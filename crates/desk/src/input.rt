@@ -8,7 +8,11 @@ use std::fs::File;
 use std::io::{Error, ErrorKind, Read};
 
 // How many bytes are there after a read, or none where no more come.
-pub(crate) fn read_behind<R: Read>(from: &mut R, bytes: &mut [u8], n: usize) -> Result<Option<usize>, Error>
+pub(crate) fn read_behind<R: Read>(
+    from: &mut R,
+    bytes: &mut [u8],
+    n: usize,
+) -> Result<Option<usize>, Error>
     requires { n < length bytes.old }
     ensures grown { Grown n (length bytes.old) result }
     ensures bytes_unchanged { take n bytes.new ≡ take n bytes.old }

@@ -1,5 +1,4 @@
 // A dimmer's own rows.
-ghost use Rattle.std.specs.Prelude.{◌≡◌};
 ghost use Rattle.dimmer.specs.Table.{own};
 
 use crate::{commands, properties};

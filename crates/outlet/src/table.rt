@@ -1,5 +1,4 @@
 // An outlet's own rows (request 1).
-ghost use Rattle.std.specs.Prelude.{◌≡◌};
 ghost use Rattle.outlet.specs.Table.{own};
 
 use crate::{commands, properties};

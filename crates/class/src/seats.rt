@@ -27,7 +27,7 @@ pub fn class_seats(
     if 16 < n {
         return SeatsAnswer {
             answer: silent(ClassOutcome::Unfit),
-            seats: seats,
+            seats,
         };
     }
     lend_seats(seats, n, links, message, room)
@@ -47,8 +47,5 @@ fn lend_seats(
 {
     let mut row = seats;
     let answer = class_step(&mut row[..n], links, message, room);
-    SeatsAnswer {
-        answer: answer,
-        seats: row,
-    }
+    SeatsAnswer { answer, seats: row }
 }

@@ -29,8 +29,7 @@ pub(crate) fn turn(
     ensures { Took (turn_of m t heard links.old room.old)
         result.progress result.next links.new room.new }
 {
-    let round = t.round;
-    match round {
+    match t.round {
         Round::Note => note(m, t),
         Round::One => served(t, step_in(m, t, heard, links, room)),
         Round::All => offered(t, step_in(m, t, heard, links, room)),
@@ -42,10 +41,9 @@ fn note(m: Module, t: Progress) -> Tended
     requires { (t.seat < t.task.seats) × (t.task.seats ≤ 16) }
     ensures { result ≡ note m t }
 {
-    let identity = m.identity;
     Tended {
         next: m,
-        progress: noted(t, identity.address),
+        progress: noted(t, m.identity.address),
     }
 }
 
@@ -59,7 +57,7 @@ fn noted(t: Progress, a: Address) -> Progress
     names[t.seat] = a;
     let after = Progress {
         seat: next,
-        names: names,
+        names,
         ..t
     };
     if next < t.task.seats {
@@ -83,10 +81,9 @@ fn served(t: Progress, a: Answer) -> Tended
     ensures { result ≡ served t a }
 {
     let outcome = a.outcome;
-    let next = a.next;
     let answer = ClassAnswer::of_seat(t.seat, outcome, a.length, a.read);
     Tended {
-        next: next,
+        next: a.next,
         progress: ended(t, answer),
     }
 }
@@ -98,13 +95,12 @@ fn offered(t: Progress, a: Answer) -> Tended
 {
     let before = t.answer;
     let outcome = a.outcome;
-    let next = a.next;
     let answer = before.and_seat(outcome, before.read + a.read);
     Tended {
-        next: next,
+        next: a.next,
         progress: Progress {
             seat: t.seat + 1,
-            answer: answer,
+            answer,
             ..t
         },
     }

@@ -30,11 +30,10 @@ pub(crate) fn wanted_of(kind: MessageKind) -> Option<Wanted>
 fn direct_wanted(r: Request, command: Command) -> Option<Wanted>
     ensures { result ≡ direct_wanted r command }
 {
-    let from = r.from;
     if needs_no_link(command) {
         None
     } else {
-        Some(Wanted::Sender(from))
+        Some(Wanted::Sender(r.from))
     }
 }
 

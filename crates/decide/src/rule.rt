@@ -31,10 +31,8 @@ pub fn ruling_by(m: Module, links: &[u8], message: Message) -> Ruling
 fn read_ruling(m: Module, links: &[u8], message: Message) -> Ruling
     ensures { result ≡ read_ruling m links.now message.«data» message.reading }
 {
-    let reading = message.reading;
-    let data = message.data;
-    match reading {
-        Ok(kind) => kind_ruling(m, links, kind, data),
+    match message.reading {
+        Ok(kind) => kind_ruling(m, links, kind, message.data),
         Err(Unread::BadLength) => silence(Outcome::BadLength),
         Err(Unread::BadSum) => silence(Outcome::BadSum),
     }
@@ -45,10 +43,9 @@ fn kind_ruling(m: Module, links: &[u8], kind: MessageKind, data: [u8; 14]) -> Ru
     ensures { result ≡ kind_ruling m links.now «data» kind }
 {
     let searched = search(links, wanted_of(kind));
-    let found = searched.found;
-    let plan = plan_of(m, kind, data, records(links), found);
+    let plan = plan_of(m, kind, data, records(links), searched.found);
     Ruling {
-        plan: plan,
+        plan,
         read: searched.read,
     }
 }
@@ -58,8 +55,5 @@ fn silence(outcome: Outcome) -> Ruling
     ensures { result ≡ silence outcome }
 {
     let plan = Plan::refused(outcome, Due::Nothing);
-    Ruling {
-        plan: plan,
-        read: 0,
-    }
+    Ruling { plan, read: 0 }
 }

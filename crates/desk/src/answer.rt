@@ -29,7 +29,7 @@ pub(crate) fn fresh(seating: Seating) -> Desk
     ensures { result ≡ fresh_desk seating }
 {
     Desk {
-        seating: seating,
+        seating,
         tally: Tally {
             results: [0; 12],
             seats: [0; 16],

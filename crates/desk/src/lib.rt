@@ -58,8 +58,7 @@ fn teach_as(rt: HostRuntime, show: Show) {
         say_bad_line(rt, number);
         return;
     }
-    let row = roster.row;
-    serve_all(rt, show, class_with(row, roster.count));
+    serve_all(rt, show, class_with(roster.row, roster.count));
 }
 
 // What goes wrong with a file is said on standard error, and ends it too.

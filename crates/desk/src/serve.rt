@@ -30,10 +30,7 @@ pub(crate) fn serve_until_end(
     requires room_in_bounds { 2 * length room.old < length out.old }
     ensures { EndPromise desk links.old room.old links.new }
 {
-    let mut p = Progress {
-        desk: desk,
-        count: 0,
-    };
+    let mut p = Progress { desk, count: 0 };
     // A proved loop has to end, and input need not: it has more turns than any run uses up.
     for _ in 0..u64::MAX {
         if !p.desk.is_open {
@@ -76,9 +73,8 @@ fn serve_one_read(
 fn stopped(before: Progress) -> Progress
     ensures { result ≡ record { desk = closed_of before.desk; count = before.count } }
 {
-    let desk = before.desk;
     Progress {
-        desk: closed(desk),
+        desk: closed(before.desk),
         count: before.count,
     }
 }
@@ -125,10 +121,7 @@ fn serve_arrived(
     while desk.is_open {
         match seek_from(arrived, used) {
             Seen::Waiting(k) => {
-                return Progress {
-                    desk: desk,
-                    count: k,
-                };
+                return Progress { desk, count: k };
             }
             Seen::Whole(k, n) => {
                 let end = k + n;
@@ -137,10 +130,7 @@ fn serve_arrived(
             }
         }
     }
-    Progress {
-        desk: desk,
-        count: used,
-    }
+    Progress { desk, count: used }
 }
 
 // The next frame behind the first `used` bytes; its place is counted from the start of all.

@@ -10,8 +10,7 @@ use wire::request::Request;
 pub(crate) fn load_entry(lamp: Lamp, r: Request) -> LoadEntry<Lamp>
     ensures { result ≡ load_entry lamp r }
 {
-    let command1 = r.command1;
-    match command1 {
+    match r.command1 {
         0x11 => at_level(lamp, r.command2),
         0x12 => at_level(lamp, r.command2),
         0x21 => at_level(lamp, r.command2),

@@ -27,9 +27,7 @@ pub fn dreelish_step(
         return UNFIT;
     }
     let answer = step(m, links, message, room);
-    let next = answer.next;
-    store(image, next);
+    store(image, answer.next);
     tell(report, answer.length, answer.read);
-    let outcome = answer.outcome;
-    u64::from(u8::from(outcome))
+    u64::from(u8::from(answer.outcome))
 }

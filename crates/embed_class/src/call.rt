@@ -33,6 +33,5 @@ pub fn dreelish_class_step(
     }
     let answer = serve_row(images, count, links, message, room);
     tell(report, answer.length, answer.read);
-    let outcome = answer.outcome;
-    u64::from(u8::from(outcome))
+    u64::from(u8::from(answer.outcome))
 }

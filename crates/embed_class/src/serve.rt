@@ -33,15 +33,13 @@ pub(crate) fn serve_row(
     let names = names_of(each);
     let heard = hear(message);
     let t = noticed(names, count, links.len(), heard);
-    let round = t.round;
     let mut answer = t.answer;
-    if !is_for_all(round) {
+    if !is_for_all(t.round) {
         if count <= t.seat {
             return answer;
         }
         let own = serve_seat(images, t.seat, t.task.share, links, heard, room);
-        let outcome = own.outcome;
-        return ClassAnswer::of_seat(t.seat, outcome, own.length, own.read);
+        return ClassAnswer::of_seat(t.seat, own.outcome, own.length, own.read);
     }
     for seat in t.seat..count {
         let own = serve_seat(images, seat, t.task.share, links, heard, room);
@@ -84,7 +82,6 @@ fn serve_seat(
     let from = seat * share;
     let behind = from + share;
     let a = serve(m, &mut links[from..behind], heard, room);
-    let next = a.next;
-    store(&mut images[at..end], next);
+    store(&mut images[at..end], a.next);
     a
 }

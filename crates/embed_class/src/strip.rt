@@ -33,12 +33,7 @@ pub(crate) fn names_of(each: &[[u8; LENGTH]]) -> [Address; 16]
     requires { length each.now ≤ 16 }
     ensures { take (length each.now) result ≡ map address_in each.now }
 {
-    let blank = Address {
-        high: 0,
-        middle: 0,
-        low: 0,
-    };
-    let mut names = [blank; 16];
+    let mut names = [Address::default(); 16];
     for (i, image) in each.iter().enumerate() {
         names[i] = address_in(image);
     }

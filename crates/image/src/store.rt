@@ -16,8 +16,7 @@ pub fn store(image: &mut [u8], m: Module)
     let Some(bytes) = image.as_mut_array::<LENGTH>() else {
         return;
     };
-    let load = m.load;
-    let is_own = kind_of(load) == bytes[places::KIND];
+    let is_own = kind_of(m.load) == bytes[places::KIND];
     if is_kind(bytes) & is_own {
         store_values(bytes, m);
     }
@@ -40,8 +39,7 @@ fn store_values(image: &mut [u8; LENGTH], m: Module)
     image[places::HOUSE] = m.house;
     image[places::UNIT] = m.unit;
     image[places::DELTA] = m.delta;
-    let load = m.load;
-    store_load(image, load);
+    store_load(image, m.load);
 }
 
 fn store_load(image: &mut [u8; LENGTH], load: Load)

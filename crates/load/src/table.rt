@@ -70,8 +70,7 @@ fn extended_entry<K: Kind>(
 fn properties_entry<K: Kind>(load: K::Load, r: Request, data: [u8; 14]) -> LoadEntry<K::Load>
     ensures { result ≡ properties_entry K.own load r «data» }
 {
-    let command2 = r.command2;
-    match command2 {
+    match r.command2 {
         0x00 => K::property_entry(load, data),
         _ => stays(load, Entry::Shared),
     }

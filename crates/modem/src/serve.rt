@@ -30,8 +30,5 @@ pub fn serve(
     let heeded = heed(s, links, &frame[start..], room);
     let n = heeded.length;
     let sent = put_frames(out, &room[..n]);
-    Some(Served {
-        heeded: heeded,
-        sent: sent,
-    })
+    Some(Served { heeded, sent })
 }

@@ -10,8 +10,7 @@ use wire::request::Request;
 pub(crate) fn load_entry(sockets: Sockets, r: Request) -> LoadEntry<Sockets>
     ensures { result ≡ load_entry sockets r }
 {
-    let command1 = r.command1;
-    match command1 {
+    match r.command1 {
         0x11 => at_top(sockets, true),
         0x13 => at_top(sockets, false),
         0x19 => status_entry(sockets, r.command2),
@@ -22,8 +21,7 @@ pub(crate) fn load_entry(sockets: Sockets, r: Request) -> LoadEntry<Sockets>
 pub(crate) fn second_entry(sockets: Sockets, r: Request, data: [u8; 14]) -> LoadEntry<Sockets>
     ensures { result ≡ second_entry sockets r «data» }
 {
-    let command1 = r.command1;
-    match command1 {
+    match r.command1 {
         0x11 => bottom_entry(sockets, data, true),
         0x13 => bottom_entry(sockets, data, false),
         _ => stays(sockets, Entry::Unlisted),

@@ -38,12 +38,7 @@ pub fn roster_of(text: &[u8]) -> Roster
 fn empty_roster() -> Roster
     ensures { result ≡ empty_roster }
 {
-    let blank = Address {
-        high: 0,
-        middle: 0,
-        low: 0,
-    };
-    let nobody = fresh_at(Kind::Dimmer, blank);
+    let nobody = fresh_at(Kind::Dimmer, Address::default());
     Roster {
         row: [nobody; 16],
         count: 0,

@@ -41,9 +41,9 @@ fn identity(a: Address, category: u8, subcategory: u8, firmware: u8) -> Identity
 {
     Identity {
         address: a,
-        category: category,
-        subcategory: subcategory,
-        firmware: firmware,
+        category,
+        subcategory,
+        firmware,
         revision: 0x00,
     }
 }

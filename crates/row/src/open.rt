@@ -42,13 +42,11 @@ pub fn open(seats: usize, bytes: usize, heard: Message) -> Progress
 fn task_of(seats: usize, share: usize, heard: Message) -> Task
     ensures { result ≡ task_of seats share heard }
 {
-    let reading = heard.reading;
-    let to = heard.to;
     Task {
-        seats: seats,
-        share: share,
-        scope: scope_of(reading),
-        to: to,
+        seats,
+        share,
+        scope: scope_of(heard.reading),
+        to: heard.to,
     }
 }
 
@@ -73,16 +71,11 @@ fn is_share_fit(share: usize) -> bool
 fn begun(seat: usize, task: Task) -> Progress
     ensures { result ≡ begun seat task }
 {
-    let blank = Address {
-        high: 0,
-        middle: 0,
-        low: 0,
-    };
     Progress {
-        seat: seat,
+        seat,
         answer: silent(ClassOutcome::Unfit),
         round: Round::Note,
-        names: [blank; 16],
-        task: task,
+        names: [Address::default(); 16],
+        task,
     }
 }

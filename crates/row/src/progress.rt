@@ -33,8 +33,8 @@ impl ClassAnswer {
     {
         ClassAnswer {
             outcome: ClassOutcome::Single(outcome),
-            length: length,
-            read: read,
+            length,
+            read,
             whom: Whom::Seat(seat),
         }
     }
@@ -47,7 +47,7 @@ impl ClassAnswer {
         ClassAnswer {
             outcome: so_far.joined(outcome),
             length: 0,
-            read: read,
+            read,
             ..self
         }
     }
@@ -102,7 +102,7 @@ pub fn silent(outcome: ClassOutcome) -> ClassAnswer
     ensures { result ≡ silent outcome }
 {
     ClassAnswer {
-        outcome: outcome,
+        outcome,
         length: 0,
         read: 0,
         whom: Whom::Nobody,
@@ -115,7 +115,7 @@ pub fn ended(t: Progress, answer: ClassAnswer) -> Progress
 {
     Progress {
         seat: t.task.seats,
-        answer: answer,
+        answer,
         ..t
     }
 }

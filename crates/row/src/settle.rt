@@ -18,7 +18,7 @@ pub fn noticed(names: [Address; 16], seats: usize, bytes: usize, heard: Message)
     if t.seat < seats {
         return settled(Progress {
             seat: t.task.seats,
-            names: names,
+            names,
             ..t
         });
     }
@@ -39,8 +39,7 @@ fn settled(t: Progress) -> Progress
     requires { t.task.seats ≤ 16 }
     ensures { result ≡ settled t }
 {
-    let names = t.names;
-    let seated = &names[..t.task.seats];
+    let seated = &t.names[..t.task.seats];
     if is_doubled(seated) {
         return ended(t, silent(ClassOutcome::Doubled));
     }
@@ -60,11 +59,11 @@ fn second_round(t: Progress, seat: usize, round: Round, whom: Whom) -> Progress
     ensures { result ≡ second_round t seat round whom }
 {
     let none = silent(ClassOutcome::Single(Outcome::Unconcerned));
-    let answer = ClassAnswer { whom: whom, ..none };
+    let answer = ClassAnswer { whom, ..none };
     Progress {
-        seat: seat,
-        answer: answer,
-        round: round,
+        seat,
+        answer,
+        round,
         ..t
     }
 }

@@ -39,14 +39,12 @@ fn heed_alone(m: Module, links: &mut [u8], message: &[u8], room: &mut [u8]) -> H
         (Seating.Alone m) result links.new room.new }
 {
     let a = step(m, links, message, room);
-    let next = a.next;
-    let outcome = a.outcome;
     Heeded {
-        number: u8::from(outcome),
+        number: u8::from(a.outcome),
         length: a.length,
         read: a.read,
         whom: Whom::Seat(0),
-        next: Seating::Alone(next),
+        next: Seating::Alone(a.next),
     }
 }
 
@@ -63,16 +61,11 @@ fn heed_class(
     let served = class_seats(row, count, links, message, room);
     let after = served.seats;
     let answer = served.answer;
-    let outcome = answer.outcome;
-    let whom = answer.whom;
     Heeded {
-        number: u8::from(outcome),
+        number: u8::from(answer.outcome),
         length: answer.length,
         read: answer.read,
-        whom: whom,
-        next: Seating::Class {
-            row: after,
-            count: count,
-        },
+        whom: answer.whom,
+        next: Seating::Class { row: after, count },
     }
 }

@@ -63,8 +63,10 @@ impl fmt::Display for Message<'_> {
         let kind = heard_as(message);
         let shown = KindShown(kind);
         let command = Hex(&message[7..9]);
-        let load = self.load;
-        let asked = Asked { kind, load };
+        let asked = Asked {
+            kind,
+            load: self.load,
+        };
         write!(f, " | from{from} to{to} | {shown}{command}{asked}")?;
         if message.len() > 9 {
             let data = Hex(&message[9..]);

@@ -44,9 +44,9 @@ fn read_as(message: &[u8], to: Address, own: Address) -> Message
     let kind = kind_of(head);
     let data = data_of(message);
     Message {
-        to: to,
+        to,
         reading: Ok(kind),
-        data: data,
+        data,
     }
 }
 
@@ -65,8 +65,8 @@ fn bare(to: Address, reading: Result<MessageKind, Unread>) -> Message
     ensures { result ≡ bare to reading }
 {
     Message {
-        to: to,
-        reading: reading,
+        to,
+        reading,
         data: [0; 14],
     }
 }

@@ -116,6 +116,7 @@ each_once =
       wire-heard-as = λ _. by_value _;
       wire-is-extended = λ _. by_value _;
       links-is-fit = λ _. by_value _;
+      links-is-fit-size = λ _. by_value _;
       links-records = λ _. by_value _;
       links-record-or-blank = λ _ _. by_value _;
       links-is-end-mark = λ _. by_value _;

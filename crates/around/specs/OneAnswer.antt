@@ -13,7 +13,7 @@ use Rattle.wire.specs.Reading.{heard_in, ReadPromise}
 use Rattle.links.specs.declared.memory.Link.{Link}
 use Rattle.links.specs.declared.search.Wanted.{Wanted}
 use Rattle.links.specs.declared.search.Searched.{Searched}
-use Rattle.links.specs.Record.{is_fit, records, record_or_blank, is_end_mark}
+use Rattle.links.specs.Record.{is_fit, is_fit_size, records, record_or_blank, is_end_mark}
 use Rattle.links.specs.Name.{name_of, place_of}
 use Rattle.links.specs.Mark.{up_to_mark}
 use Rattle.links.specs.Search.{search_of}
@@ -123,6 +123,7 @@ pub record EachOnce : Type 1 where
   pub wire-heard-as : (s : List ℕ) → Only (λ (r : MessageKind). r ≡ heard_as s)
   pub wire-is-extended : (s : List ℕ) → Only (λ (r : Bool). r ≡ is_extended s)
   pub links-is-fit : (l : List ℕ) → Only (λ (r : Bool). r ≡ is_fit l)
+  pub links-is-fit-size : (n : ℕ) → Only (λ (r : Bool). r ≡ is_fit_size n)
   pub links-records : (l : List ℕ) → Only (λ (r : ℕ). r ≡ records l)
   pub links-record-or-blank : (l : List ℕ) (k : ℕ) → Only (λ (r : List ℕ). r ≡ record_or_blank l k)
   pub links-is-end-mark : (r : List ℕ) → Only (λ (b : Bool). b ≡ is_end_mark r)

@@ -7,9 +7,13 @@ use Rattle.wire.specs.Bytes.{address_at, equals}
 use Rattle.wire.specs.declared.address.Address.{Address}
 use Rattle.links.specs.declared.memory.Link.{Link}
 
--- its length is not 0, not over 2,048, and a multiple of 8: result 2 does not apply
+-- not 0, not over 2,048, and a multiple of 8
+abbrev pub is_fit_size : ℕ → Bool
+is_fit_size n = within 1 2048 n && eqb (n % 8) 0
+
+-- its length is so: result 2 does not apply
 abbrev pub is_fit : List ℕ → Bool
-is_fit l = within 1 2048 (length l) && eqb (length l % 8) 0
+is_fit l = is_fit_size (length l)
 
 abbrev pub records : List ℕ → ℕ
 records l = length l / 8

@@ -1,6 +1,6 @@
 // Link memory as records of eight bytes, and the tests of a record ("Link memory").
 ghost use Rattle.std.specs.Prelude.{◌≡◌, ◌+◌, ◌≤◌, ◌<◌, length};
-ghost use Rattle.links.specs.Record.{is_fit, records, start_of, record_at, record_or_blank, link_of, is_in_use, is_responder, is_end_mark, bears};
+ghost use Rattle.links.specs.Record.{is_fit_size, is_fit, records, start_of, record_at, record_or_blank, link_of, is_in_use, is_responder, is_end_mark, bears};
 
 use wire::address::Address;
 
@@ -19,7 +19,13 @@ pub struct Link {
 pub fn is_fit(links: &[u8]) -> bool
     ensures { result ≡ is_fit links.now }
 {
-    let n = links.len();
+    is_fit_size(links.len())
+}
+
+// So many bytes, of a whole link memory or of a share of one.
+pub fn is_fit_size(n: usize) -> bool
+    ensures { result ≡ is_fit_size n }
+{
     (1 <= n) & (n <= 2048) & (n % 8 == 0)
 }
 
@@ -30,7 +36,8 @@ pub fn records(links: &[u8]) -> usize
     links.len() / 8
 }
 
-// Where record `k`, which is there, stands.
+// Where record `k`, which is there, stands. That it is there is asked for, here and twice more, and in no type: it is a fact of number and
+// memory together, and a struct of both would hold what each caller has in its hands anyway.
 pub(crate) fn start_of(links: &[u8], k: usize) -> usize
     requires { k < records links.now }
     ensures { (result ≡ start_of links.now k) × (result + 8 ≤ length links.now) }

@@ -2,7 +2,7 @@
 ghost use Rattle.std.specs.Prelude.{◌≡◌};
 ghost use Rattle.links.specs.Name.{name_of, meant, place_of};
 
-// The address that record `k` is shown by, or 0 where there is none.
+// The address that record `k` is shown by, or 0 where there is none: no Option, as the clause says a number, the two bytes that are sent.
 pub fn name_of(k: usize) -> usize
     ensures { result ≡ name_of k }
 {

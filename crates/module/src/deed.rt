@@ -27,6 +27,7 @@ pub struct Write {
     pub count: usize,
 }
 
+// No Result: two of its cases are carried out, each in its own way.
 #[derive(Clone, Copy)]
 pub enum Deed {
     Done(Change, Ack),

@@ -12,7 +12,7 @@ use wire::address::Address;
 pub struct Roster {
     // The first sixteen modules, in their places.
     pub row: [Module; 16],
-    // How many modules there are.
+    // How many modules there are, those past the sixteenth too, which have no place: so it is an array with its count.
     pub count: usize,
     // The number of the first line that is bad, of all lines of the text and counted from 1.
     pub bad: Option<usize>,

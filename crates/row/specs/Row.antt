@@ -4,10 +4,11 @@ use Rattle.basis.specs.First.{first}
 use Rattle.basis.specs.Numbers.{within}
 use Rattle.wire.specs.declared.address.Address.{Address}
 use Rattle.wire.specs.Bytes.{equals}
+use Rattle.links.specs.Record.{is_fit_size}
 
 -- as many bytes as fit link memory has
 abbrev pub is_share_fit : ℕ → Bool
-is_share_fit w = within 1 2048 w && eqb (w % 8) 0
+is_share_fit w = is_fit_size w
 
 -- one to sixteen seats, and equal shares that are fit: result 11 does not apply
 abbrev pub is_row_fit : ℕ → ℕ → Bool

@@ -1,10 +1,11 @@
 // Before the first turn: whether the row can be served at all, and whom a message is for as far as its reading tells.
 ghost use Rattle.std.specs.Prelude.{◌≡◌};
-ghost use Rattle.row.specs.Row.{is_share_fit, is_row_fit};
+ghost use Rattle.row.specs.Row.{is_row_fit};
 ghost use Rattle.row.specs.Round.{scope_of_kind, scope_of, task_of, begun, opened};
 
 use crate::outcome::ClassOutcome;
 use crate::progress::{Progress, Round, Scope, Task, silent};
+use links::memory::is_fit_size;
 use wire::address::Address;
 use wire::kind::{Message, MessageKind, Unread};
 
@@ -57,14 +58,7 @@ fn is_row_fit(seats: usize, bytes: usize) -> bool
     if seats == 0 {
         return false;
     }
-    (seats <= 16) & (bytes % seats == 0) & is_share_fit(bytes / seats)
-}
-
-// As link memory is.
-fn is_share_fit(share: usize) -> bool
-    ensures { result ≡ is_share_fit share }
-{
-    (1 <= share) & (share <= 2048) & (share % 8 == 0)
+    (seats <= 16) & (bytes % seats == 0) & is_fit_size(bytes / seats)
 }
 
 // What stands for the answer until there is one is that of a row that has no turns at all.

@@ -9,12 +9,12 @@ use row::progress::Whom;
 #[derive(Clone, Copy)]
 pub enum Seating {
     Alone(Module),
-    // The first `count` places are the class's.
+    // The first `count` places are the class's. An array with its count, as a count over sixteen is a row too, which is refused.
     Class { row: [Module; 16], count: usize },
 }
 
 // The paper's number, the reply's length, the records read, whom it was for, and who sits there afterwards. A module alone is the first
-// seat.
+// seat. A number and no outcome: `Heeds` and the theorems over it speak of the paper's numbers, for a module and a class alike.
 #[derive(Clone, Copy)]
 pub struct Heeded {
     pub number: u8,

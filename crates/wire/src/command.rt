@@ -40,7 +40,7 @@ pub enum Command {
     Extended(Extended),
 }
 
-// "Groups": what a broadcast or a cleanup tells its group.
+// "Groups": what a broadcast or a cleanup tells its group. `Unlisted` is a command too, which a linked cleanup is answered for: no Option.
 #[derive(Clone, Copy)]
 pub enum GroupCommand {
     On,

@@ -1,6 +1,6 @@
 //! "That two results allowed by one promise are equal is itself proved": the list of promises that are proved so,
 //! `crates/around/specs/OneAnswer.antt`, has every public function, with the promise that stands at the function. What a static
-//! library exports has the promise of a function of a library below it, word for word.
+//! library exports has the promise of a function of a library below it, word for word. What a trait gives of a type is listed too.
 
 use std::collections::BTreeSet;
 use std::fs;
@@ -8,6 +8,65 @@ use std::path::{Path, PathBuf};
 
 /// Public functions that leave something open; docs/DECISIONS.md has the cause of each.
 const OPEN: [&str; 2] = ["desk-sit", "desk-teach"];
+
+/// Rows of what a trait gives of a type: where it is given, and by which words.
+const GIVEN: [(&str, &str, &str); 11] = [
+    (
+        "wire-equals",
+        "wire/src/address.rt",
+        "PartialEq, Eq)]\npub struct Address",
+    ),
+    (
+        "wire-address",
+        "wire/src/address.rt",
+        "from_gives = { λ bytes address. address ≡ address_at bytes 0 }",
+    ),
+    (
+        "wire-standard",
+        "wire/src/command.rt",
+        "from_gives = { λ command1 command. command ≡ standard_of command1 }",
+    ),
+    (
+        "wire-extended",
+        "wire/src/command.rt",
+        "from_gives = { λ command1 command. command ≡ extended_of command1 }",
+    ),
+    (
+        "wire-group-command",
+        "wire/src/command.rt",
+        "from_gives = { λ command1 command. command ≡ group_command_of command1 }",
+    ),
+    (
+        "results-number",
+        "results/src/lib.rt",
+        "from_gives = { λ outcome number. number ≡ number_of outcome }",
+    ),
+    (
+        "row-class-number",
+        "row/src/outcome.rt",
+        "from_gives = { λ outcome number. number ≡ class_number_of outcome }",
+    ),
+    (
+        "load-fresh-lamp",
+        "load/src/state.rt",
+        "is_default = { λ lamp. lamp ≡ fresh_lamp }",
+    ),
+    (
+        "load-fresh-sockets",
+        "load/src/state.rt",
+        "is_default = { λ sockets. sockets ≡ fresh_sockets }",
+    ),
+    (
+        "dimmer-entry-of",
+        "dimmer/src/table.rt",
+        "ghost own = { own }",
+    ),
+    (
+        "outlet-entry-of",
+        "outlet/src/table.rt",
+        "ghost own = { own }",
+    ),
+];
 
 /// A crate, by its line in crates.txt.
 struct Crate {
@@ -45,6 +104,10 @@ fn every_public_function_is_listed_with_its_promise() {
             function.row
         );
         rows.remove(function.row.as_str());
+    }
+    for (row, file, words) in GIVEN {
+        assert!(read(&crates().join(file)).contains(words), "{row}: {file}");
+        assert!(rows.remove(row), "{row} is not listed");
     }
     assert!(rows.is_empty(), "no such function: {rows:?}");
 }

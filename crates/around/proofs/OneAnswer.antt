@@ -179,4 +179,15 @@ each_once =
       embed-class-dreelish-class-step = λ _ _ _ _ _ _. embedded _;
       letters-new = λ _ _ _ p q. (p.0 ∙ sym q.0, p.1 ∙ sym q.1);
       letters-laid = λ _. by_value _;
+      wire-equals = λ _ _. by_value _;
+      wire-address = λ _. by_value _;
+      wire-standard = λ _. by_value _;
+      wire-extended = λ _. by_value _;
+      wire-group-command = λ _. by_value _;
+      results-number = λ _. by_value _;
+      row-class-number = λ _. by_value _;
+      load-fresh-lamp = by_value _;
+      load-fresh-sockets = by_value _;
+      dimmer-entry-of = λ _ _ _ _. by_value _;
+      outlet-entry-of = λ _ _ _ _. by_value _;
     }

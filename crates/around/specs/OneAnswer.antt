@@ -4,10 +4,13 @@ use Rattle.basis.specs.Laid.{laid, laid_if_fits}
 use Rattle.wire.specs.declared.address.Address.{Address}
 use Rattle.wire.specs.declared.request.Request.{Request}
 use Rattle.wire.specs.declared.command.Command.{Command}
+use Rattle.wire.specs.declared.command.Standard.{Standard}
+use Rattle.wire.specs.declared.command.Extended.{Extended}
 use Rattle.wire.specs.declared.command.GroupCommand.{GroupCommand}
 use Rattle.wire.specs.declared.kind.MessageKind.{MessageKind}
 use Rattle.wire.specs.declared.kind.Message.{Message}
-use Rattle.wire.specs.Bytes.{is_extended}
+use Rattle.wire.specs.Bytes.{address_at, equals, is_extended}
+use Rattle.wire.specs.Commands.{standard_of, extended_of, group_command_of}
 use Rattle.wire.specs.Kinds.{heard_as}
 use Rattle.wire.specs.Reading.{heard_in, ReadPromise}
 use Rattle.links.specs.declared.memory.Link.{Link}
@@ -26,12 +29,14 @@ use Rattle.reply.specs.Message.{headed}
 use Rattle.reply.specs.Reply.{reply_of}
 use Rattle.reply.specs.Sending.{Sending}
 use Rattle.results.specs.declared.Outcome.{Outcome}
+use Rattle.results.specs.Number.{number_of}
 use Rattle.module.specs.declared.state.Identity.{Identity}
 use Rattle.load.specs.declared.entry.Entry.{Entry}
 use Rattle.load.specs.declared.entry.LoadEntry.{LoadEntry}
 use Rattle.load.specs.declared.entry.Properties.{Properties}
 use Rattle.load.specs.declared.state.Lamp.{Lamp}
 use Rattle.load.specs.declared.state.Sockets.{Sockets}
+use Rattle.load.specs.Fresh.{fresh_lamp, fresh_sockets}
 use Rattle.load.specs.Answer.{becomes, stays}
 use Rattle.load.specs.Table.{Own, entry_of}
 use Rattle.module.specs.declared.state.Module.{Module}
@@ -46,7 +51,9 @@ use Rattle.module.specs.Deed
 use Rattle.module.specs.Plan
 use Rattle.shared.specs.Extended.{shown_deed}
 use Rattle.shared.specs.Table.{shared_deed}
+use Rattle.dimmer.specs.Table as dimmer
 use Rattle.dimmer.specs.Groups as dimmer-groups
+use Rattle.outlet.specs.Table as outlet
 use Rattle.outlet.specs.Groups as outlet-groups
 use Rattle.decide.specs.declared.rule.Ruling.{Ruling}
 use Rattle.decide.specs.Ruling.{ruling_by}
@@ -56,6 +63,7 @@ use Rattle.row.specs.declared.outcome.ClassOutcome.{ClassOutcome}
 use Rattle.row.specs.declared.progress.ClassAnswer.{ClassAnswer}
 use Rattle.row.specs.declared.progress.Progress.{Progress}
 use Rattle.class.specs.declared.seats.SeatsAnswer.{SeatsAnswer}
+use Rattle.row.specs.Number.{class_number_of}
 use Rattle.row.specs.Answer.{silent, joined, of_seat, and_seat}
 use Rattle.row.specs.Round.{ended, opened, noticed, settled_if_few}
 use Rattle.class.specs.Class.{class_of, ClassComes}
@@ -198,3 +206,16 @@ pub record EachOnce : Type 1 where
       → Only (λ (c : Returned). Returns (class_returned_of images n l s room report) c.number c.image c.links c.room c.report)
   pub letters-new : (bytes : List ℕ) (x y : letters.Line) → Begins bytes x → Begins bytes y → (laid_in x ≡ laid_in y) × (x.bytes.now ≡ y.bytes.now)
   pub letters-laid : (line : letters.Line) → Only (λ (r : List ℕ). r ≡ laid_in line)
+  -- what a trait of std's, or the trait of kinds, gives of a type
+  pub wire-equals : (a b : Address) → Only (λ (r : Bool). r ≡ equals a b)
+  pub wire-address : (bytes : List ℕ) → Only (λ (r : Address). r ≡ address_at bytes 0)
+  pub wire-standard : (command1 : ℕ) → Only (λ (r : Standard). r ≡ standard_of command1)
+  pub wire-extended : (command1 : ℕ) → Only (λ (r : Extended). r ≡ extended_of command1)
+  pub wire-group-command : (command1 : ℕ) → Only (λ (r : GroupCommand). r ≡ group_command_of command1)
+  pub results-number : (o : Outcome) → Only (λ (r : ℕ). r ≡ number_of o)
+  pub row-class-number : (o : ClassOutcome) → Only (λ (r : ℕ). r ≡ class_number_of o)
+  pub load-fresh-lamp : Only (λ (r : Lamp). r ≡ fresh_lamp)
+  pub load-fresh-sockets : Only (λ (r : Sockets). r ≡ fresh_sockets)
+  pub dimmer-entry-of : (lamp : Lamp) (q : Request) (d : List ℕ) (command : Command) → Only (λ (r : LoadEntry Lamp). r ≡ dimmer.entry_of lamp q d command)
+  pub outlet-entry-of : (sockets : Sockets) (q : Request) (d : List ℕ) (command : Command)
+      → Only (λ (r : LoadEntry Sockets). r ≡ outlet.entry_of sockets q d command)

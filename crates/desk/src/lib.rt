@@ -7,13 +7,12 @@ mod said;
 mod serve;
 mod word;
 
-use answer::fresh;
+use answer::{Lent, fresh};
 use input::load;
 use roster::roster::roster_of;
 use roster::seat::bench_of;
 use seating::heed::Seating;
 use seating::start::{alone, class_with};
-use serve::serve_until_end;
 use word::{asked, asked_of_class, list_class_words, list_words};
 
 // What is written for each frame.
@@ -71,17 +70,15 @@ fn serve_all(rt: HostRuntime, show: Show, seating: Seating) {
     // less than one frame ever waits, so a read always has room
     let mut held = [0; 4096];
     let mut room = [0; 5897];
-    // the frames of the longest reply, or its line
     let mut out = [0; 18432];
-    serve_until_end(
+    let mut lent = Lent {
         rt,
         show,
-        fresh(seating),
-        &mut memory[..n],
-        &mut held,
-        &mut room,
-        &mut out,
-    );
+        links: &mut memory[..n],
+        room: &mut room,
+        out: &mut out,
+    };
+    lent.serve_until_end(fresh(seating), &mut held);
 }
 
 fn say_too_long(rt: HostRuntime) {

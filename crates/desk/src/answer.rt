@@ -1,5 +1,5 @@
 // One frame: answered, told, and counted.
-ghost use Rattle.std.specs.Prelude.{◌≡◌, length};
+ghost use Rattle.std.specs.Prelude.{◌≡◌, ◌*◌, ◌<◌, length};
 ghost use Rattle.io.specs.Counts.{IsPrefixLen};
 ghost use Rattle.modem.specs.Frames.{framed};
 ghost use Rattle.desk.specs.Tally.{counted_at, counted_as};
@@ -49,23 +49,22 @@ pub(crate) fn closed(desk: Desk) -> Desk
     }
 }
 
-// What a desk is lent for as long as it serves.
+// What a desk is lent for as long as it serves. More than twice the room holds the frames of any reply.
 #[derive(Drop)]
-pub(crate) struct Lent<'a> {
+pub(crate) struct Lent<'a, const ROOM: usize> {
     pub rt: HostRuntime,
     pub show: Show,
-    // link memory
     pub links: &'a mut [u8],
-    // where a reply is laid
+    // for one reply
     pub room: &'a mut [u8],
-    // the frames of the longest reply, or its line
+    // for its frames, or for its line
     pub out: &'a mut [u8],
-    ghost room_size: { length room.now ≡ 5897 },
-    ghost out_size: { length out.now ≡ 18432 },
+    ghost room_size: { length room.now ≡ ROOM },
+    ghost fits: { 2 * ROOM < length out.now },
 }
 
-impl Lent<'_> {
-    // Closed afterwards where the reply might not fit, or could not be told.
+impl<const ROOM: usize> Lent<'_, ROOM> {
+    // Closed afterwards where the reply could not be told. That it might not fit, for which `serve` gives none, is ruled out by `fits`.
     pub(crate) fn answer(&mut self, desk: Desk, frame: &[u8]) -> Desk
         ensures { AnswerPromise desk self.old.links.now frame.now self.old.room.now self.old.out.now
             result self.new.links.now }
@@ -129,7 +128,7 @@ fn count_at(counts: &mut [u64], i: usize)
     }
 }
 
-// No method of what is lent: the borrow rules cut no two slices of one struct at once.
+// No method of `Lent`: the check's borrow rules do not cover two of its slices that are cut at once.
 fn tell(
     rt: HostRuntime,
     show: Show,

@@ -24,6 +24,9 @@ pub enum Show {
     Lines,
 }
 
+// How long the longest reply is.
+const ROOM: usize = 5897;
+
 // The module that the command line names serves what arrives until it ends. Where the words are none of ours, that is said on standard
 // error, and nothing is read.
 pub fn sit(rt: HostRuntime) {
@@ -69,9 +72,10 @@ fn serve_all(rt: HostRuntime, show: Show, seating: Seating) {
     };
     // less than one frame ever waits, so a read always has room
     let mut held = [0; 4096];
-    let mut room = [0; 5897];
+    let mut room = [0; ROOM];
+    // the frames of the longest reply, or its line
     let mut out = [0; 18432];
-    let mut lent = Lent {
+    let mut lent = Lent::<ROOM> {
         rt,
         show,
         links: &mut memory[..n],

@@ -16,7 +16,7 @@ struct Progress {
     count: usize,
 }
 
-impl Lent<'_> {
+impl<const ROOM: usize> Lent<'_, ROOM> {
     pub(crate) fn serve_until_end(&mut self, desk: Desk, held: &mut [u8])
         requires { 25 ≤ length held.old }
         ensures { EndPromise desk self.old.links.now self.old.room.now self.new.links.now }
@@ -70,12 +70,10 @@ impl Lent<'_> {
     {
         let mut desk = desk;
         let mut used: usize = 0;
-        // no `for`: what was served and what is seen end it, and nothing is counted
+        // no `for`: it goes from frame to frame, and ends where no whole one is left or the desk is closed
         while desk.is_open {
             match seek_from(arrived, used) {
-                Seen::Waiting(k) => {
-                    return Progress { desk, count: k };
-                }
+                Seen::Waiting(k) => return Progress { desk, count: k },
                 Seen::Whole(k, n) => {
                     let end = k + n;
                     desk = self.answer(desk, &arrived[k..end]);

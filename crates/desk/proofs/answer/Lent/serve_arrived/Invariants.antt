@@ -4,7 +4,7 @@ use Rattle.desk.specs.Passed.{Passed}
 use Rattle.desk.proofs.answer.Lent.serve_arrived.Given as goal
 
 abbrev pub invariant-loop-desk : goal.invariant-loop-desk
-invariant-loop-desk l =
+invariant-loop-desk _ l =
     let lent = l.initial.self in
     record {
       inside : l.used ≤ length l.arrived;
@@ -12,4 +12,4 @@ invariant-loop-desk l =
     }
 
 abbrev pub decreases-loop-desk : goal.decreases-loop-desk
-decreases-loop-desk l = length l.arrived - l.used
+decreases-loop-desk _ l = length l.arrived - l.used

@@ -4,7 +4,7 @@ use Rattle.desk.specs.Passed.{ReadPromise}
 use Rattle.desk.proofs.answer.Lent.serve_until_end.Given as goal
 
 abbrev pub invariant-loop : goal.invariant-loop
-invariant-loop l =
+invariant-loop _ l =
     let lent = l.initial.self in
     record {
       same_held : length l.held ≡ length l.initial.held;

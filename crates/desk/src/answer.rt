@@ -1,5 +1,5 @@
 // One frame: answered, told, and counted.
-ghost use Rattle.std.specs.Prelude.{◌≡◌};
+ghost use Rattle.std.specs.Prelude.{◌≡◌, ◌*◌, ◌<◌, length};
 ghost use Rattle.io.specs.Counts.{IsPrefixLen};
 ghost use Rattle.modem.specs.Frames.{framed};
 ghost use Rattle.desk.specs.Tally.{counted_at, counted_as};
@@ -10,7 +10,7 @@ use crate::said::say_failed;
 use letters::Line;
 use lines::counts::Counts;
 use lines::told::Told;
-use modem::serve::serve;
+use modem::serve::{Served, serve};
 use row::progress::Whom;
 use seating::heed::{Heeded, Seating};
 use std::fmt::{Display, Write};
@@ -49,26 +49,47 @@ pub(crate) fn closed(desk: Desk) -> Desk
     }
 }
 
-// Closed afterwards where the reply might not fit, or could not be told.
-pub(crate) fn answer(
-    rt: HostRuntime,
-    show: Show,
-    desk: Desk,
-    links: &mut [u8],
-    frame: &[u8],
-    room: &mut [u8],
-    out: &mut [u8],
-) -> Desk
-    ensures { AnswerPromise desk links.old frame.now room.old out.old
-        result links.new }
-{
-    let s = desk.seating;
-    let Some(served) = serve(s, links, frame, room, out) else {
-        return closed(desk);
-    };
-    let h = served.heeded;
-    let is_told = tell(rt, show, frame, h, room, out, served.sent);
-    answered(desk, h, is_told)
+// What a desk is lent for as long as it serves. More than twice the room holds the frames of any reply.
+#[derive(Drop)]
+pub(crate) struct Lent<'a, const ROOM: usize> {
+    pub rt: HostRuntime,
+    pub show: Show,
+    pub links: &'a mut [u8],
+    // for one reply
+    pub room: &'a mut [u8],
+    // for its frames, or for its line
+    pub out: &'a mut [u8],
+    ghost room_size: { length room.now ≡ ROOM },
+    ghost fits: { 2 * ROOM < length out.now },
+}
+
+impl<const ROOM: usize> Lent<'_, ROOM> {
+    // Closed afterwards where the reply could not be told. That it might not fit, for which `serve` gives none, is ruled out by `fits`.
+    pub(crate) fn answer(&mut self, desk: Desk, frame: &[u8]) -> Desk
+        ensures { AnswerPromise desk self.old.links.now frame.now self.old.room.now self.old.out.now
+            result self.new.links.now }
+    {
+        let Some(served) = serve(desk.seating, self.links, frame, self.room, self.out) else {
+            return closed(desk);
+        };
+        let is_told = tell(self.rt, self.show, frame, served, self.room, self.out);
+        answered(desk, served.heeded, is_told)
+    }
+
+    pub(crate) fn finish(&mut self, desk: Desk)
+        ensures { self.new.links.now ≡ self.old.links.now }
+    {
+        match self.show {
+            Show::Frames => {}
+            Show::Lines => {
+                let counts = Counts {
+                    seating: &desk.seating,
+                    tally: &desk.tally,
+                };
+                write_text(self.rt, counts, self.out);
+            }
+        }
+    }
 }
 
 fn answered(desk: Desk, h: Heeded, is_told: bool) -> Desk
@@ -78,9 +99,8 @@ fn answered(desk: Desk, h: Heeded, is_told: bool) -> Desk
       is_open = is_told;
     } }
 {
-    let seating = h.next;
     Desk {
-        seating,
+        seating: h.next,
         tally: counted_as(desk.tally, h.number, h.whom),
         is_open: is_told,
     }
@@ -108,27 +128,27 @@ fn count_at(counts: &mut [u64], i: usize)
     }
 }
 
+// No method of `Lent`: the check's borrow rules do not cover two of its slices that are cut at once.
 fn tell(
     rt: HostRuntime,
     show: Show,
     frame: &[u8],
-    h: Heeded,
+    served: Served,
     room: &[u8],
     out: &mut [u8],
-    sent: usize,
 ) -> bool
-    requires prefix_len { IsPrefixLen sent out.old }
-    requires prefix_len_2 { IsPrefixLen h.length room.now }
-    requires handed { Handed frame.now h sent room.now out.old }
+    requires prefix_len { IsPrefixLen served.sent out.old }
+    requires prefix_len_2 { IsPrefixLen served.heeded.length room.now }
+    requires handed { Handed frame.now served.heeded served.sent room.now out.old }
 {
-    let n = h.length;
+    let reply = &room[..served.heeded.length];
     match show {
-        Show::Frames => send(rt, &out[..sent], &room[..n]),
+        Show::Frames => send(rt, &out[..served.sent], reply),
         Show::Lines => {
             let told = Told {
                 frame,
-                heeded: &h,
-                reply: &room[..n],
+                heeded: &served.heeded,
+                reply,
             };
             write_text(rt, told, out)
         }
@@ -140,19 +160,6 @@ fn send(rt: HostRuntime, frames: &[u8], reply: &[u8]) -> bool
     requires { frames.now ≡ framed reply.now }
 {
     write_out(rt, frames)
-}
-
-pub(crate) fn finish(rt: HostRuntime, show: Show, desk: Desk, out: &mut [u8]) {
-    match show {
-        Show::Frames => {}
-        Show::Lines => {
-            let counts = Counts {
-                seating: &desk.seating,
-                tally: &desk.tally,
-            };
-            write_text(rt, counts, out);
-        }
-    }
 }
 
 // In one write. A line refuses no text: what no longer fits is left out.

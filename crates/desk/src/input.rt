@@ -45,14 +45,11 @@ fn fill(rt: HostRuntime, name: &str, file: &mut File, memory: &mut [u8]) -> Opti
     ensures { IfSome result (λ size. IsPrefixLen size memory.new) }
 {
     let mut n: usize = 0;
+    // no `for`: each read brings as many bytes as it likes, and the last one ends it
     while n < memory.len() {
         match read_behind(file, memory, n) {
-            Ok(Some(k)) => {
-                n = k;
-            }
-            Ok(None) => {
-                return Some(n);
-            }
+            Ok(Some(k)) => n = k,
+            Ok(None) => return Some(n),
             Err(error) => {
                 say_failed(rt, name, error);
                 return None;

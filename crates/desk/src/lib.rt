@@ -7,13 +7,12 @@ mod said;
 mod serve;
 mod word;
 
-use answer::fresh;
+use answer::{Lent, fresh};
 use input::load;
 use roster::roster::roster_of;
 use roster::seat::bench_of;
 use seating::heed::Seating;
 use seating::start::{alone, class_with};
-use serve::serve_until_end;
 use word::{asked, asked_of_class, list_class_words, list_words};
 
 // What is written for each frame.
@@ -24,6 +23,9 @@ pub enum Show {
     // A line for a person to read, and a count of frames by result at the end.
     Lines,
 }
+
+// How long the longest reply is.
+const ROOM: usize = 5897;
 
 // The module that the command line names serves what arrives until it ends. Where the words are none of ours, that is said on standard
 // error, and nothing is read.
@@ -70,18 +72,17 @@ fn serve_all(rt: HostRuntime, show: Show, seating: Seating) {
     };
     // less than one frame ever waits, so a read always has room
     let mut held = [0; 4096];
-    let mut room = [0; 5897];
+    let mut room = [0; ROOM];
     // the frames of the longest reply, or its line
     let mut out = [0; 18432];
-    serve_until_end(
+    let mut lent = Lent::<ROOM> {
         rt,
         show,
-        fresh(seating),
-        &mut memory[..n],
-        &mut held,
-        &mut room,
-        &mut out,
-    );
+        links: &mut memory[..n],
+        room: &mut room,
+        out: &mut out,
+    };
+    lent.serve_until_end(fresh(seating), &mut held);
 }
 
 fn say_too_long(rt: HostRuntime) {

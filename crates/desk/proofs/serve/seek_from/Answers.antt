@@ -7,16 +7,16 @@ use Rattle.desk.specs.Ahead.{further, seek_behind}
 use Rattle.desk.proofs.Ahead.{next, none}
 use Rattle.desk.proofs.serve.seek_from.Goals as goal
 
-pub overflow_add-at : goal.overflow_add-at
-overflow_add-at c =
+pub overflow_add-result : goal.overflow_add-result
+overflow_add-result c =
     let g = c.args in
     let v = c.in-Whole in
     let found : Seen.Whole (g.used + v.k) v.n ≡ seek_behind g.used g.arrived.now =
     ap (further g.used) (v.ensures ∙ ap seek_of (rest g.used g.arrived.now)) in
     omega (arith, (next g.used g.arrived.now c.requires _ _ found).lies)
 
-pub overflow_add-at-in-Waiting : goal.overflow_add-at-in-Waiting
-overflow_add-at-in-Waiting c =
+pub overflow_add-result-in-Waiting : goal.overflow_add-result-in-Waiting
+overflow_add-result-in-Waiting c =
     let g = c.args in
     let v = c.in-Waiting in
     let found : Seen.Waiting (g.used + v.k) ≡ seek_behind g.used g.arrived.now =

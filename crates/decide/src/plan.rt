@@ -27,6 +27,7 @@ pub(crate) fn wanted_of(kind: MessageKind) -> Option<Wanted>
     }
 }
 
+#[tactic(auto, unfolding(basis::specs::Choice::choose))]
 fn direct_wanted(r: Request, command: Command) -> Option<Wanted>
     ensures { result ≡ direct_wanted r command }
 {
@@ -45,6 +46,7 @@ fn sender_in_group(r: Request) -> Option<Wanted>
     Some(Wanted::Responder(from, r.command2))
 }
 
+#[tactic(auto, unfolding(basis::specs::Choice::choose))]
 fn broadcast_wanted(from: Address, to: Address, command: GroupCommand) -> Option<Wanted>
     ensures { result ≡ broadcast_wanted from to command }
 {
@@ -94,6 +96,7 @@ pub(crate) fn plan_of(
     }
 }
 
+#[tactic(auto, unfolding(crate::specs::Decide::direct_plan, basis::specs::Choice::choose))]
 fn direct_plan(
     m: Module,
     r: Request,

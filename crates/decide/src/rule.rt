@@ -19,6 +19,7 @@ pub struct Ruling {
 }
 
 // Of a message as it was read.
+#[tactic(auto, unfolding(crate::specs::Ruling::ruling_by, basis::specs::Choice::choose))]
 pub fn ruling_by(m: Module, links: &[u8], message: Message) -> Ruling
     ensures { result ≡ ruling_by m links.now message }
 {

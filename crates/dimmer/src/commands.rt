@@ -7,6 +7,7 @@ use load::entry::{Entry, LoadEntry, becomes, stays};
 use load::state::Lamp;
 use wire::request::Request;
 
+#[tactic(auto, using(basis::proofs::Table::missed), unfolding(crate::specs::Load::load_entry, basis::specs::Choice::choose))]
 pub(crate) fn load_entry(lamp: Lamp, r: Request) -> LoadEntry<Lamp>
     ensures { result ≡ load_entry lamp r }
 {
@@ -37,6 +38,7 @@ fn at_level(lamp: Lamp, level: u8) -> LoadEntry<Lamp>
 }
 
 // 19: Command 2 says what is shown.
+#[tactic(auto, using(basis::proofs::Table::missed), unfolding(crate::specs::Load::status_entry, basis::specs::Choice::choose))]
 fn status_entry(lamp: Lamp, command2: u8) -> LoadEntry<Lamp>
     ensures { result ≡ status_entry lamp command2 }
 {
@@ -48,6 +50,7 @@ fn status_entry(lamp: Lamp, command2: u8) -> LoadEntry<Lamp>
 }
 
 // 39: Command 2 is per cent.
+#[tactic(auto, unfolding(crate::specs::Load::percent_entry, basis::specs::Choice::choose))]
 fn percent_entry(lamp: Lamp, command2: u8) -> LoadEntry<Lamp>
     ensures { result ≡ percent_entry lamp command2 }
 {

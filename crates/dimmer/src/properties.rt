@@ -6,6 +6,7 @@ use load::entry::{Entry, LoadEntry, Properties, becomes, stays};
 use load::state::Lamp;
 
 // Data 2 says what is asked for, and Data 3 is the new value.
+#[tactic(auto, using(basis::proofs::Table::missed), unfolding(crate::specs::Properties::property_entry, basis::specs::Choice::choose))]
 pub(crate) fn property_entry(lamp: Lamp, data: [u8; 14]) -> LoadEntry<Lamp>
     ensures { result ≡ property_entry lamp «data» }
 {
@@ -28,6 +29,7 @@ pub(crate) fn property_entry(lamp: Lamp, data: [u8; 14]) -> LoadEntry<Lamp>
     }
 }
 
+#[tactic(auto, unfolding(crate::specs::Properties::ramp_entry, basis::specs::Choice::choose))]
 fn ramp_entry(lamp: Lamp, ramp: u8) -> LoadEntry<Lamp>
     ensures { result ≡ ramp_entry lamp ramp }
 {

@@ -6,6 +6,7 @@ ghost use Rattle.links.specs.Mark.{up_to_mark};
 use crate::memory::{is_end_mark, record_at, records};
 
 // Of the `n` records from record `k` on, as far as they are there, those before the first end mark, and the end mark.
+#[tactic(auto, unfolding(crate::specs::Mark::up_to_mark))]
 pub fn up_to_mark(links: &[u8], k: usize, n: usize) -> usize
     ensures { result ≡ up_to_mark links.now (min n (records links.now - k)) k }
 {

@@ -38,6 +38,7 @@ pub fn records(links: &[u8]) -> usize
 
 // Where record `k`, which is there, stands. That it is there is asked for, here and twice more, and in no type: it is a fact of number and
 // memory together, and a struct of both would hold what each caller has in its hands anyway.
+#[tactic(auto, unfolding(crate::specs::Record::start_of))]
 pub(crate) fn start_of(links: &[u8], k: usize) -> usize
     requires { k < records links.now }
     ensures { (result ≡ start_of links.now k) × (result + 8 ≤ length links.now) }
@@ -46,6 +47,7 @@ pub(crate) fn start_of(links: &[u8], k: usize) -> usize
 }
 
 // Record `k`. Past the last record it is a never-used one, eight 00.
+#[tactic(auto, unfolding(basis::specs::Choice::choose))]
 pub fn record_or_blank(links: &[u8], k: usize) -> [u8; 8]
     ensures { result ≡ record_or_blank links.now k }
 {
@@ -57,6 +59,7 @@ pub fn record_or_blank(links: &[u8], k: usize) -> [u8; 8]
 }
 
 // Record `k`, which is there.
+#[tactic(auto, using(crate::proofs::Chunked::at_record))]
 pub(crate) fn record_at(links: &[u8], k: usize) -> [u8; 8]
     requires { k < records links.now }
     ensures { result ≡ record_at links.now k }

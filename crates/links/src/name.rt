@@ -26,6 +26,7 @@ pub fn place_of(records: usize, address: usize) -> Option<usize>
 }
 
 // Hub software asks from 0000 and means the first record (request 3).
+#[tactic(auto, unfolding(crate::specs::Name::meant, basis::specs::Choice::choose))]
 fn meant(address: usize) -> usize
     ensures { result ≡ meant address }
 {

@@ -67,6 +67,7 @@ fn extended_entry<K: Kind>(
 }
 
 // Command 2 must be 00.
+#[tactic(auto, unfolding(crate::specs::Table::properties_entry, basis::specs::Choice::choose))]
 fn properties_entry<K: Kind>(load: K::Load, r: Request, data: [u8; 14]) -> LoadEntry<K::Load>
     ensures { result ≡ properties_entry K.own load r «data» }
 {

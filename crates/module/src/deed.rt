@@ -53,6 +53,7 @@ impl Deed {
     }
 
     // Listed where the number is one of `low` to `high`.
+    #[tactic(auto, unfolding(crate::specs::Deed::limited, basis::specs::Choice::choose))]
     pub fn limited(self, low: u8, high: u8, x: u8) -> Deed
         ensures { result ≡ limited low high x self }
     {

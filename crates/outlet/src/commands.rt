@@ -7,6 +7,7 @@ use load::state::Sockets;
 use wire::request::Request;
 
 // Command 2 is read by 19 alone.
+#[tactic(auto, using(basis::proofs::Table::missed), unfolding(crate::specs::Load::load_entry, basis::specs::Choice::choose))]
 pub(crate) fn load_entry(sockets: Sockets, r: Request) -> LoadEntry<Sockets>
     ensures { result ≡ load_entry sockets r }
 {
@@ -18,6 +19,7 @@ pub(crate) fn load_entry(sockets: Sockets, r: Request) -> LoadEntry<Sockets>
     }
 }
 
+#[tactic(auto, using(basis::proofs::Table::missed), unfolding(crate::specs::Load::second_entry, basis::specs::Choice::choose))]
 pub(crate) fn second_entry(sockets: Sockets, r: Request, data: [u8; 14]) -> LoadEntry<Sockets>
     ensures { result ≡ second_entry sockets r «data» }
 {
@@ -29,6 +31,7 @@ pub(crate) fn second_entry(sockets: Sockets, r: Request, data: [u8; 14]) -> Load
 }
 
 // Data 1 = 02 names the bottom socket, and nothing else is listed.
+#[tactic(auto, unfolding(crate::specs::Load::bottom_entry, basis::specs::Choice::choose))]
 fn bottom_entry(sockets: Sockets, data: [u8; 14], is_on: bool) -> LoadEntry<Sockets>
     ensures { result ≡ bottom_entry sockets «data» is_on }
 {
@@ -58,6 +61,7 @@ fn at_bottom(sockets: Sockets, is_on: bool) -> LoadEntry<Sockets>
 }
 
 // 19: Command 2 says what is shown.
+#[tactic(auto, using(basis::proofs::Table::missed), unfolding(crate::specs::Load::status_entry, basis::specs::Choice::choose))]
 fn status_entry(sockets: Sockets, command2: u8) -> LoadEntry<Sockets>
     ensures { result ≡ status_entry sockets command2 }
 {
@@ -69,6 +73,7 @@ fn status_entry(sockets: Sockets, command2: u8) -> LoadEntry<Sockets>
 }
 
 // Fully on or off.
+#[tactic(auto, unfolding(crate::specs::Load::full_of, basis::specs::Choice::choose))]
 fn full_of(is_on: bool) -> u8
     ensures { result ≡ full_of is_on }
 {
@@ -82,6 +87,7 @@ fn both_of(sockets: Sockets) -> u8
     bit_of(sockets.top) + 2 * bit_of(sockets.bottom)
 }
 
+#[tactic(auto, unfolding(crate::specs::Load::bit_of, basis::specs::Choice::choose))]
 fn bit_of(is_on: bool) -> u8
     ensures { (result ≡ bit_of is_on) × (result ≤ 1) }
 {

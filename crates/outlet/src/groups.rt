@@ -18,6 +18,7 @@ pub fn group_of(sockets: Sockets, command: GroupCommand, link: Link) -> Option<S
 }
 
 // 01 is the top socket and 02 the bottom one; a record with another D3 is not listed.
+#[tactic(auto, using(basis::proofs::Table::missed), unfolding(crate::specs::Groups::socket_group, basis::specs::Choice::choose))]
 fn socket_group(sockets: Sockets, which: u8, is_on: bool) -> Option<Sockets>
     ensures { result ≡ socket_group sockets which is_on }
 {

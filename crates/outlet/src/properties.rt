@@ -6,6 +6,7 @@ use load::entry::{Entry, LoadEntry, Properties, stays};
 use load::state::{FRESH_ON_LEVEL, FRESH_RAMP, Sockets};
 
 // Data 2 says what is asked for.
+#[tactic(auto, unfolding(crate::specs::Properties::property_entry, basis::specs::Choice::choose))]
 pub(crate) fn property_entry(sockets: Sockets, data: [u8; 14]) -> LoadEntry<Sockets>
     ensures { result ≡ property_entry sockets «data» }
 {

@@ -34,6 +34,7 @@ impl Asked {
 }
 
 // What the message of a record says: Data 1 as it was sent, 01, the record's address, 00, its eight bytes, 00.
+#[tactic(auto, using(links::proofs::Taken::taken))]
 fn record_data(links: &[u8], k: usize, data1: u8) -> [u8; 14]
     requires { k < records links.now }
     ensures { result ≡ record_data data1 links.now k }

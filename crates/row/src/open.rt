@@ -31,6 +31,7 @@ fn scope_of_kind(kind: MessageKind) -> Scope
     }
 }
 
+#[tactic(auto, unfolding(basis::specs::Choice::choose, crate::specs::Round::opened))]
 pub fn open(seats: usize, bytes: usize, heard: Message) -> Progress
     ensures { result ≡ opened seats bytes heard }
 {

@@ -14,6 +14,7 @@ pub enum ClassOutcome {
 
 impl ClassOutcome {
     // Done where any seat acted.
+    #[tactic(auto, unfolding(basis::specs::Choice::choose))]
     pub fn joined(self, own: Outcome) -> ClassOutcome
         ensures { result ≡ joined self own }
     {

@@ -11,6 +11,7 @@ use wire::address::Address;
 use wire::kind::Message;
 
 // For whoever has the addresses together, and not a row that is lent: the first round is over at once.
+#[tactic(auto, using(crate::proofs::Fit::fit), unfolding(basis::specs::Choice::choose, crate::specs::Round::opened, crate::specs::Round::noticed))]
 pub fn noticed(names: [Address; 16], seats: usize, bytes: usize, heard: Message) -> Progress
     ensures { result ≡ noticed names seats bytes heard }
 {
@@ -26,6 +27,7 @@ pub fn noticed(names: [Address; 16], seats: usize, bytes: usize, heard: Message)
 }
 
 // For whoever has noted the addresses one by one.
+#[tactic(auto, unfolding(basis::specs::Choice::choose))]
 pub fn settle(t: Progress) -> Progress
     ensures { result ≡ settled_if_few t }
 {

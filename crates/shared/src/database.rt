@@ -8,6 +8,7 @@ use reply::due::Asked;
 use wire::request::Request;
 
 // Command 2 must be 00.
+#[tactic(auto, unfolding(crate::specs::Extended::database_deed, basis::specs::Choice::choose))]
 pub(crate) fn database_deed(r: Request, data: [u8; 14], records: usize) -> Deed
     ensures { result ≡ database_deed r «data» records }
 {
@@ -18,6 +19,7 @@ pub(crate) fn database_deed(r: Request, data: [u8; 14], records: usize) -> Deed
 }
 
 // Data 2 says what is asked for, of the record that Data 3 and 4 name.
+#[tactic(auto, using(basis::proofs::Table::missed), unfolding(crate::specs::Extended::record_deed, basis::specs::Choice::choose))]
 fn record_deed(data: [u8; 14], records: usize) -> Deed
     ensures { result ≡ record_deed «data» records }
 {

@@ -30,6 +30,7 @@ pub(crate) fn extended_deed(
 }
 
 // 20: Command 2 is a flag's code.
+#[tactic(auto, unfolding(module::specs::Deed::limited, basis::specs::Choice::choose))]
 fn flags_deed(m: Module, code: u8) -> Deed
     ensures { result ≡ flags_deed m code }
 {

@@ -9,6 +9,7 @@ use module::state::Module;
 use wire::request::Request;
 
 // Command 2 must be 00.
+#[tactic(auto, unfolding(crate::specs::Extended::properties_deed, basis::specs::Choice::choose))]
 pub(crate) fn properties_deed(r: Request, data: [u8; 14]) -> Deed
     ensures { result ≡ properties_deed r «data» }
 {
@@ -19,6 +20,7 @@ pub(crate) fn properties_deed(r: Request, data: [u8; 14]) -> Deed
 }
 
 // Data 2 says what is asked for, and Data 3 is the new value.
+#[tactic(auto, using(basis::proofs::Table::missed), unfolding(crate::specs::Extended::property_deed, basis::specs::Choice::choose))]
 fn property_deed(data: [u8; 14]) -> Deed
     ensures { result ≡ property_deed «data» }
 {

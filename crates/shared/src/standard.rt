@@ -38,6 +38,7 @@ fn module_deed(m: Module, r: Request, command: ModuleCommand) -> Deed
 }
 
 // 1F: Command 2 says what is asked for.
+#[tactic(auto, using(basis::proofs::Table::missed), unfolding(crate::specs::Standard::flags_told, basis::specs::Choice::choose))]
 fn flags_told(m: Module, command2: u8) -> Deed
     ensures { result ≡ flags_told m command2 }
 {

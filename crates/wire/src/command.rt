@@ -52,6 +52,7 @@ pub enum GroupCommand {
 impl From<u8> for Standard {
     ghost from_gives = { λ command1 command. command ≡ standard_of command1 };
 
+    #[tactic(auto, using(basis::proofs::Table::missed), unfolding(crate::specs::Commands::standards, basis::specs::Choice::choose))]
     fn from(command1: u8) -> Standard {
         match command1 {
             0x0f => Standard::Open(OpenCommand::Ping),
@@ -67,6 +68,7 @@ impl From<u8> for Standard {
 impl From<u8> for Extended {
     ghost from_gives = { λ command1 command. command ≡ extended_of command1 };
 
+    #[tactic(auto, using(basis::proofs::Table::missed), unfolding(crate::specs::Commands::extendeds, basis::specs::Choice::choose))]
     fn from(command1: u8) -> Extended {
         match command1 {
             0x20 => Extended::SetFlags,
@@ -81,6 +83,7 @@ impl From<u8> for GroupCommand {
     ghost from_gives = { λ command1 command. command ≡ group_command_of command1 };
 
     // 11 and 12 turn on, 13 and 14 off.
+    #[tactic(auto, unfolding(crate::specs::Commands::group_command_of, basis::specs::Choice::choose))]
     fn from(command1: u8) -> GroupCommand {
         match command1 {
             0x11..=0x12 => GroupCommand::On,

@@ -12,6 +12,7 @@ use crate::request::Request;
 use crate::sum;
 
 // A message that reached the module whose address is `own`.
+#[tactic(auto, using(crate::proofs::Numbered::promised))]
 pub fn read(message: &[u8], own: Address) -> Message
     ensures { ReadPromise message.now own result }
 {
@@ -28,6 +29,7 @@ pub fn hear(message: &[u8]) -> Message
 }
 
 // In the order of "Result numbers": 1, 3, 4, then its kind.
+#[tactic(auto, using(crate::proofs::Head::same_foreign, crate::proofs::Head::same_kind), unfolding(crate::specs::Reading::read_of, basis::specs::Choice::choose))]
 fn read_as(message: &[u8], to: Address, own: Address) -> Message
     requires { to ≡ named_in message.now }
     ensures { result ≡ read_of message.now own }
@@ -82,6 +84,7 @@ fn whole_head(message: &[u8]) -> Option<&[u8; 9]>
 }
 
 // Result 1 does not apply.
+#[tactic(auto, unfolding(basis::specs::Choice::choose))]
 fn is_whole(message: &[u8]) -> bool
     ensures { result ≡ is_whole message.now }
 {
@@ -131,6 +134,7 @@ fn is_astray(head: &[u8; 9], own: Address) -> bool
 }
 
 // Result 4.
+#[tactic(auto, using(crate::proofs::Whole::by_length))]
 fn is_sum_wrong(message: &[u8]) -> bool
     requires { is_whole message.now ≡ true }
     ensures { result ≡ is_sum_wrong message.now }
@@ -145,6 +149,7 @@ fn is_sum_wrong(message: &[u8]) -> bool
 }
 
 // The kind of a message that is not foreign.
+#[tactic(auto, unfolding(crate::specs::Kinds::kind_of, basis::specs::Choice::choose))]
 fn kind_of(head: &[u8; 9]) -> MessageKind
     ensures { result ≡ kind_of head.now }
 {
@@ -169,6 +174,7 @@ fn request_of(head: &[u8; 9]) -> Request
 }
 
 // A direct command, by its length and Command 1.
+#[tactic(auto, unfolding(basis::specs::Choice::choose))]
 fn command_of(is_long: bool, command1: u8) -> Command
     ensures { result ≡ command_of is_long command1 }
 {
@@ -191,6 +197,7 @@ fn data_of(message: &[u8]) -> [u8; 14]
 }
 
 // Whom a message is for.
+#[tactic(auto, using(crate::proofs::Head::same_to, crate::proofs::Head::nobody), unfolding(basis::specs::Choice::choose))]
 fn named_in(message: &[u8]) -> Address
     ensures { result ≡ named_in message.now }
 {

@@ -26,12 +26,12 @@ pub(crate) fn high_then_f(two: u8) -> u8
 pub(crate) fn percent_of(level: u8) -> u8
     ensures { result ≡ percent_of level }
 {
-    ((100 * (level as u32) + 127) / 255) as u8
+    ((100 * u32::from(level) + 127) / 255) as u8
 }
 
 pub(crate) fn level_of(p: u8) -> u8
     requires { p ≤ 100 }
     ensures { result ≡ level_of p }
 {
-    ((255 * (p as u32) + 50) / 100) as u8
+    ((255 * u32::from(p) + 50) / 100) as u8
 }

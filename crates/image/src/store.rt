@@ -62,12 +62,6 @@ fn store_lamp(image: &mut [u8; LENGTH], lamp: Lamp)
 fn store_sockets(image: &mut [u8; LENGTH], sockets: Sockets)
     ensures { image.new ≡ with_values (load_values (Load.Outlet sockets)) image.old }
 {
-    image[places::TOP] = byte_of(sockets.top);
-    image[places::BOTTOM] = byte_of(sockets.bottom);
-}
-
-fn byte_of(is_on: bool) -> u8
-    ensures { result ≡ byte_of is_on }
-{
-    if is_on { 0x01 } else { 0x00 }
+    image[places::TOP] = u8::from(sockets.top);
+    image[places::BOTTOM] = u8::from(sockets.bottom);
 }

@@ -32,11 +32,15 @@ impl<'a> Line<'a> {
 
 // No piece is refused: what comes behind one that is left out is laid where it fits.
 impl fmt::Write for Line<'_> {
+    ghost use Rattle.std.specs.Prelude.{IsOk};
     ghost use Rattle.letters.specs.Laid.{Lays};
 
     ghost write_str_gives = { Lays };
 
-    fn write_str(&mut self, text: &str) -> fmt::Result {
+    fn write_str(&mut self, text: &str) -> fmt::Result
+        ensures lays { Lays self.old text.now self.new }
+        ensures taken { IsOk result }
+    {
         let from = self.len;
         let bytes = text.as_bytes();
         if self.bytes.len() - from >= bytes.len() {

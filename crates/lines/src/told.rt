@@ -92,10 +92,7 @@ fn shown_at(s: &Seating, i: usize) -> Option<LoadShown>
 {
     match s {
         Seating::Alone(m) => Some(load_shown(m.load)),
-        Seating::Class { row, .. } => match row.get(i) {
-            Some(m) => Some(load_shown(m.load)),
-            None => None,
-        },
+        Seating::Class { row, .. } => row.get(i).map(|m| load_shown(m.load)),
     }
 }
 

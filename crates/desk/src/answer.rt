@@ -64,18 +64,6 @@ pub(crate) struct Lent<'a, const ROOM: usize> {
 }
 
 impl<const ROOM: usize> Lent<'_, ROOM> {
-    // Closed afterwards where the reply could not be told. That it might not fit, for which `serve` gives none, is ruled out by `fits`.
-    pub(crate) fn answer(&mut self, desk: Desk, frame: &[u8]) -> Desk
-        ensures { AnswerPromise desk self.old.links.now frame.now self.old.room.now self.old.out.now
-            result self.new.links.now }
-    {
-        let Some(served) = serve(desk.seating, self.links, frame, self.room, self.out) else {
-            return closed(desk);
-        };
-        let is_told = tell(self.rt, self.show, frame, served, self.room, self.out);
-        answered(desk, served.heeded, is_told)
-    }
-
     pub(crate) fn finish(&mut self, desk: Desk)
         ensures { self.new.links.now ≡ self.old.links.now }
     {
@@ -90,6 +78,27 @@ impl<const ROOM: usize> Lent<'_, ROOM> {
             }
         }
     }
+}
+
+// Closed afterwards where the reply might not fit, or could not be told. No method of `Lent`: what `AnswerPromise` says of an `out` in
+// which it might not fit (`cramped`) could not be said of one that `fits`.
+pub(crate) fn answer(
+    rt: HostRuntime,
+    show: Show,
+    desk: Desk,
+    links: &mut [u8],
+    frame: &[u8],
+    room: &mut [u8],
+    out: &mut [u8],
+) -> Desk
+    ensures { AnswerPromise desk links.old frame.now room.old out.old
+        result links.new }
+{
+    let Some(served) = serve(desk.seating, links, frame, room, out) else {
+        return closed(desk);
+    };
+    let is_told = tell(rt, show, frame, served, room, out);
+    answered(desk, served.heeded, is_told)
 }
 
 fn answered(desk: Desk, h: Heeded, is_told: bool) -> Desk
@@ -128,7 +137,7 @@ fn count_at(counts: &mut [u64], i: usize)
     }
 }
 
-// No method of `Lent`: the check's borrow rules do not cover two of its slices that are cut at once.
+// No method of `Lent` either: the check's borrow rules do not cover two of its slices that are cut at once.
 fn tell(
     rt: HostRuntime,
     show: Show,

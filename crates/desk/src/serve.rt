@@ -4,7 +4,7 @@ ghost use Rattle.desk.specs.Desk.{closed_of};
 ghost use Rattle.desk.specs.Ahead.{seek_behind};
 ghost use Rattle.desk.specs.Passed.{ArrivedPromise, HeldPromise, ReadPromise, EndPromise};
 
-use crate::answer::{Desk, Lent, closed};
+use crate::answer::{Desk, Lent, answer, closed};
 use crate::input::read_behind;
 use crate::said::say_failed;
 use modem::arrived::{Seen, keep, seek};
@@ -76,7 +76,10 @@ impl<const ROOM: usize> Lent<'_, ROOM> {
                 Seen::Waiting(k) => return Progress { desk, count: k },
                 Seen::Whole(k, n) => {
                     let end = k + n;
-                    desk = self.answer(desk, &arrived[k..end]);
+                    let frame = &arrived[k..end];
+                    desk = answer(
+                        self.rt, self.show, desk, self.links, frame, self.room, self.out,
+                    );
                     used = end;
                 }
             }

@@ -24,8 +24,8 @@ overflow_add-end _ c =
     let found = next at.used c.args.arrived.now at.invariant.inside _ _ c.in-Whole.ensures in
     omega (arith, found.lies)
 
-pub slice_bounds-answer-end : goal.slice_bounds-answer-end
-slice_bounds-answer-end _ c =
+pub slice_bounds-frame-end : goal.slice_bounds-frame-end
+slice_bounds-frame-end _ c =
     let at = c.loop-desk in
     let found = next at.used c.args.arrived.now at.invariant.inside _ _ c.in-Whole.ensures in
     omega (arith, found.lies)
@@ -50,5 +50,5 @@ loop-desk-preserved _ c =
       inside = omega (arith, found.lies);
       passed =
           one_more g.desk at.desk g.self.now.links.now g.self.now.room.now g.arrived.now at.self.links.now at.used at.invariant.passed
-          c.answer-desk.result at.self.room.now c.answer-desk.new.self.links.now (at.self.room_size ∙ sym g.self.now.room_size) k n found served;
+          c.answer-desk.result at.self.room.now c.answer-desk.new.links (at.self.room_size ∙ sym g.self.now.room_size) k n found served;
     }

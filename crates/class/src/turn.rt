@@ -18,6 +18,7 @@ pub struct Tended {
 }
 
 // The round tells what the turn is for: all that a row does is decided here, and the walk along it does not look.
+#[tactic(auto, using(device::proofs::Counted::most_read))]
 pub(crate) fn turn(
     m: Module,
     t: Progress,
@@ -48,6 +49,7 @@ fn note(m: Module, t: Progress) -> Tended
 }
 
 // With the last address it is known who is to be served.
+#[tactic(auto, unfolding(basis::specs::Choice::choose))]
 fn noted(t: Progress, a: Address) -> Progress
     requires { (t.seat < t.task.seats) × (t.task.seats ≤ 16) }
     ensures { result ≡ noted t a }

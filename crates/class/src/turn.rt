@@ -18,7 +18,6 @@ pub struct Tended {
 }
 
 // The round tells what the turn is for: all that a row does is decided here, and the walk along it does not look.
-#[tactic(auto, using(device::proofs::Counted::most_read))]
 pub(crate) fn turn(
     m: Module,
     t: Progress,

@@ -72,11 +72,6 @@ module _ (w : ℕ) (s : List ℕ) where
   way_alike (suc k) i x y p e =
       way_alike k (i + 1) (heard_at w s i x) (heard_at w s i y) (next_alike i x y p e) (next_kept i x ∙ e ∙ sym (next_kept i y))
 
-  way_kept : (k i : ℕ) (x : Heard) → length (heard_from w s k i x).room ≡ length x.room
-  unfolding heard_from
-  way_kept zero i x = refl
-  way_kept (suc k) i x = way_kept k (i + 1) (heard_at w s i x) ∙ next_kept i x
-
 -- ---- the class
 abbrev from_way : Way → ClassSaid
 from_way y =
@@ -127,14 +122,6 @@ module _ (row : List Module) (l s : List ℕ) where
       let no : (o : ClassOutcome) → Alike (refused_by o row l room) (refused_by o row l other) = λ o. refused_alike o room other in
       let one = beside Alike _ (served_alike _ room other e) (no _) in
       beside Alike _ (beside Alike _ (no _) (beside Alike _ (beside Alike _ (no _) (beside Alike _ (offered_alike room other e) one)) (no _))) (no _)
-
-  pub class_kept : (room : List ℕ) → length (class_of row l s room).room ≡ length room
-  unfolding class_of
-  class_kept room =
-      let P : ClassStep → Type 0 = λ t. length t.room ≡ length room in
-      let all = way_kept w s (length row) 0 _ in
-      let one = either P _ (room_kept (own w row l _) s room) refl in
-      either P _ (either P _ refl (either P _ (either P _ refl (either P _ all one)) refl)) refl
 
   refused_replied : (o : ClassOutcome) (room : List ℕ) → ClassReplied room (refused_by o row l room)
   refused_replied o room = record { fits = omega arith; start = refl }

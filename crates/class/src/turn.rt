@@ -49,6 +49,7 @@ fn note(m: Module, t: Progress) -> Tended
 }
 
 // With the last address it is known who is to be served.
+#[tactic(auto, unfolding(basis::specs::Choice::choose))]
 fn noted(t: Progress, a: Address) -> Progress
     requires { (t.seat < t.task.seats) × (t.task.seats ≤ 16) }
     ensures { result ≡ noted t a }

@@ -12,7 +12,6 @@ use Rattle.basis.specs.Choice.{choose}
 use Rattle.basis.specs.Spell.{spell}
 use Rattle.basis.specs.Table.{among}
 use Rattle.basis.proofs.Spelled.{spelled}
-use Rattle.basis.proofs.Choice.{either}
 use Rattle.basis.proofs.Tests.{both, clash}
 use Rattle.load.specs.declared.state.Load.{Load}
 use Rattle.module.specs.declared.state.Module.{Module}
@@ -21,7 +20,7 @@ use Rattle.module.specs.Change.{with_load}
 use Rattle.image.specs.Places.{LENGTH, KIND, LEVEL, RAMP, ON_LEVEL, TOP, BOTTOM}
 use Rattle.image.specs.Image.{is_socket, kinds, is_image, is_on, load_of, module_of, held_in}
 use Rattle.image.specs.Image.{byte_of, load_values, values, stored_in, stored_if_own}
-use Rattle.image.proofs.Values.{values_length, Stand, unchanged}
+use Rattle.image.proofs.Values.{Stand, unchanged}
 
 pub long : (s : List ℕ) → is_image s ≡ true → length s ≡ LENGTH
 unfolding is_image
@@ -164,11 +163,6 @@ stays_own s m o =
 -- of two modules stored one after the other nothing but the second is left
 pub stored_again : (s : List ℕ) (m x : Module) → Own s m → Own s x → stored_in (stored_in s m) x ≡ stored_in s x
 stored_again s m x o p = again_of s m (long s o.is_one) m.load x x.load (o.of_kind ∙ sym p.of_kind)
-
--- stored or not, an image keeps its length
-pub own_length : (s : List ℕ) (m : Module) → length (stored_if_own s m) ≡ length s
-unfolding stored_if_own
-own_length s m = either (λ (z : List ℕ). length z ≡ length s) _ (values_length (values m) s) refl
 
 -- where image and kind are right the module is stored
 pub own : (s : List ℕ) (m : Module) → is_image s ≡ true → kind_of m.load ≡ get_or s KIND 0 → stored_if_own s m ≡ stored_in s m

@@ -1,44 +1,22 @@
--- A message to whoever sits there: its numbers, its reply in the room, and what hangs on the room.
+-- A message to whoever sits there: its reply in the room, and what hangs on the room.
 use Prim.Native.Nat.{ℕ, ◌≤◌}
 use mathlib.Core.Path.{◌≡◌, refl, ap}
 use mathlib.Core.List.{List, [], ◌∷◌, ◌++◌}
 use native.Mathlib.Omega.{arith}
 use lib.ListN.{length, take, drop}
 use Rattle.basis.proofs.Choice.{either, beside}
-use Rattle.results.specs.declared.Outcome.{Outcome}
 use Rattle.results.specs.Number.{number_of}
 use Rattle.module.specs.declared.state.Module.{Module}
-use Rattle.device.specs.Step.{step_of}
 use Rattle.device.specs.Run.{Call, Said}
 use Rattle.device.proofs.Lent.{room_alike}
 use Rattle.device.proofs.Replied.{replied}
-use Rattle.row.specs.declared.outcome.ClassOutcome.{ClassOutcome}
 use Rattle.row.specs.declared.progress.Whom.{Whom}
 use Rattle.row.specs.Number.{class_number_of}
 use Rattle.class.specs.Class.{ClassStep}
-use Rattle.class.specs.Seats.{seats_of}
 use Rattle.class.proofs.Lent.{ClassSaid, class_alike, class_replied}
 use Rattle.seating.specs.declared.heed.Seating.{Seating}
 use Rattle.seating.specs.Heed.{Heed, by_class, heed_of}
 use Rattle.seating.specs.Sat.{Sat, Told, heed_in, sat_by, heed_all, sat_after, told_by}
-
--- numbers are 0 to 11
-single : (o : Outcome) → number_of o ≤ 11
-single Outcome.Done = omega arith
-single Outcome.BadLength = omega arith
-single Outcome.BadMemory = omega arith
-single Outcome.Foreign = omega arith
-single Outcome.BadSum = omega arith
-single Outcome.NoRoom = omega arith
-single Outcome.NotLinked = omega arith
-single Outcome.Unlisted = omega arith
-single Outcome.Unconcerned = omega arith
-
-of_class : (o : ClassOutcome) → class_number_of o ≤ 11
-of_class (ClassOutcome.Single o) = single o
-of_class ClassOutcome.Doubled = omega arith
-of_class ClassOutcome.NoSeat = omega arith
-of_class ClassOutcome.Unfit = omega arith
 
 -- the reply stands at the start of the room
 pub record HeedReplied (room : List ℕ) (t : Heed) : Type 0 where
@@ -48,11 +26,6 @@ pub record HeedReplied (room : List ℕ) (t : Heed) : Type 0 where
 -- what two messages come to is the same, their rooms aside
 pub record HeedAlike (s : Sat) (t u : Heed) : Type 0 where
   pub same : told_by s t ≡ told_by s u
-
-pub numbered : (s : Seating) (l message room : List ℕ) → (heed_of s l message room).number ≤ 11
-unfolding heed_of
-numbered (Seating.Alone m) l message room = single (step_of m l message room).outcome
-numbered (Seating.Class row count) l message room = of_class (seats_of row count l message room).outcome
 
 pub heed_replied : (s : Seating) (l message room : List ℕ) → HeedReplied room (heed_of s l message room)
 unfolding heed_of

@@ -14,6 +14,7 @@ pub fn lay(room: &mut [u8], bytes: &[u8])
     room[..bytes.len()].copy_from_slice(bytes);
 }
 
+// std's, with a clause by the definition; two edits are of it, so that it stays.
 pub fn min(a: usize, b: usize) -> usize
     ensures { result ≡ min a b }
 {

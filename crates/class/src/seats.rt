@@ -1,4 +1,5 @@
-// For whoever has the row by value, in the first places of an array: its promise says nothing of a lent row.
+// For whoever has the row by value, in the first places of an array: its promise says nothing of a lent row. The count stands beside the
+// array, as one over sixteen is refused with its result.
 ghost use Rattle.std.specs.Prelude.{◌≤◌};
 ghost use Rattle.class.specs.Seats.{seats_of, SeatsCome, first_of};
 

@@ -16,7 +16,8 @@ use seating::heed::{Heeded, Seating};
 use std::fmt::{Display, Write};
 use text::tally::Tally;
 
-// Who sits there, how many frames had each result and were for each seat, and whether more frames are served.
+// Who sits there, how many frames had each result and were for each seat, and whether more frames are served. A flag and no Option: the
+// promises (`EndPromise`, `ReadPromise`, `HeldPromise`) say of a closed desk, too, who sits there and what was counted.
 #[derive(Clone, Copy)]
 pub(crate) struct Desk {
     pub seating: Seating,

@@ -15,7 +15,7 @@ use seating::heed::Seating;
 use seating::start::{alone, class_with};
 use word::{asked, asked_of_class, list_class_words, list_words};
 
-// What is written for each frame.
+// What is written for each frame: two ways, of which `tell` and `finish` know both, so that a closure for each would be no plainer.
 #[derive(Clone, Copy)]
 pub enum Show {
     // Its reply, in frames.
@@ -70,7 +70,7 @@ fn serve_all(rt: HostRuntime, show: Show, seating: Seating) {
     let Some(n) = load(rt, "links.bin", false, &mut memory) else {
         return;
     };
-    // less than one frame ever waits, so a read always has room
+    // arrays, as there is no heap; less than one frame ever waits, so a read always has room
     let mut held = [0; 4096];
     let mut room = [0; ROOM];
     // the frames of the longest reply, or its line

@@ -9,7 +9,7 @@ use crate::input::read_behind;
 use crate::said::say_failed;
 use modem::arrived::{Seen, keep, seek};
 
-// How far a desk has come, in bytes.
+// How far a desk has come, in bytes of what is held: a count, as `ReadPromise` and `HeldPromise` name it.
 #[derive(Clone, Copy)]
 struct Progress {
     desk: Desk,

@@ -21,6 +21,7 @@ pub struct Answer {
     pub next: Module,
 }
 
+// Link memory, message and room stay three parameters, as the paper names them and C lends them.
 pub fn step(m: Module, links: &mut [u8], message: &[u8], room: &mut [u8]) -> Answer
     ensures { StepPromise m links.old message.now room.old result links.new room.new }
 {

@@ -1,4 +1,5 @@
-// What a standard command does to a dimmer's lamp ("Direct commands, standard").
+// What a standard command does to a dimmer's lamp ("Direct commands, standard"). It shares no row with an outlet's, so that a common table
+// of rows would be no plainer.
 ghost use Rattle.std.specs.Prelude.{◌≡◌};
 ghost use Rattle.dimmer.specs.Load.{at_level, status_entry, percent_entry, load_entry};
 
@@ -31,10 +32,7 @@ pub(crate) fn load_entry(lamp: Lamp, r: Request) -> LoadEntry<Lamp>
 fn at_level(lamp: Lamp, level: u8) -> LoadEntry<Lamp>
     ensures { result ≡ at_level lamp level }
 {
-    becomes(Lamp {
-        level: level,
-        ..lamp
-    })
+    becomes(Lamp { level, ..lamp })
 }
 
 // 19: Command 2 says what is shown.

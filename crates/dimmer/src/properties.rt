@@ -34,7 +34,7 @@ fn ramp_entry(lamp: Lamp, ramp: u8) -> LoadEntry<Lamp>
     ensures { result ≡ ramp_entry lamp ramp }
 {
     match ramp {
-        0x00..=0x1f => becomes(Lamp { ramp: ramp, ..lamp }),
+        0x00..=0x1f => becomes(Lamp { ramp, ..lamp }),
         _ => stays(lamp, Entry::Unlisted),
     }
 }

@@ -7,7 +7,7 @@ use crate::strip::is_row;
 use image::report::tell;
 use row::outcome::ClassOutcome;
 
-// The number of images or a report that do not fit.
+// The number of images or a report that do not fit: a number, as all that this call gives, since C reads it.
 const UNFIT: u64 = 255;
 
 pub fn dreelish_class_step(

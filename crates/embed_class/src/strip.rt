@@ -40,6 +40,7 @@ pub(crate) fn names_of(each: &[[u8; LENGTH]]) -> [Address; 16]
     names
 }
 
+// Three lines that `image` has for a whole identity: a public function of it for them would be longer.
 fn address_in(image: &[u8; LENGTH]) -> Address
     ensures { result ≡ address_in image.now }
 {

@@ -2,7 +2,7 @@
 // The Rust wrapper reads this file as it is; specs/Places.antt has the same names, and dreelish.h with DREELISH_ before them.
 pub const LENGTH: usize = 64;
 
-// The kinds that there are.
+// The kinds that there are, by the numbers that C writes.
 pub const DIMMER: u8 = 0x01;
 
 pub const OUTLET: u8 = 0x02;

@@ -38,7 +38,7 @@ impl fmt::Write for Line<'_> {
     ghost write_str_gives = { Lays };
 
     fn write_str(&mut self, text: &str) -> fmt::Result
-        ensures lays { Lays self.old text.now self.new }
+        ensures ok { IsOk result → Lays self.old text.now self.new }
         ensures taken { IsOk result }
     {
         let from = self.len;

@@ -12,7 +12,7 @@ pub enum Entry {
     Shown(Properties),
     // As every kind has it.
     Shared,
-    // Result 7.
+    // Result 7: a row that a table can have like the others, and no Result.
     Unlisted,
 }
 

@@ -1,4 +1,5 @@
-// What a command does to an outlet's sockets: standard ones to the top socket, extended ones to the bottom one (request 1).
+// What a command does to an outlet's sockets: standard ones to the top socket, extended ones to the bottom one (request 1). It shares
+// no row with a dimmer's.
 ghost use Rattle.std.specs.Prelude.{◌≡◌, ◌≤◌};
 ghost use Rattle.outlet.specs.Load.{at_top, at_bottom, full_of, bit_of, both_of, status_entry, load_entry, bottom_entry, second_entry};
 

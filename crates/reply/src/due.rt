@@ -55,6 +55,7 @@ pub struct Asked {
 // The whole reply that is due.
 #[derive(Clone, Copy)]
 pub enum Due {
+    // No Option of the others: `reply_of` says the bytes of each, and of nothing none.
     Nothing,
     // An ACK or a NAK alone.
     Alone(Head),

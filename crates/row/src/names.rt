@@ -13,7 +13,7 @@ pub(crate) fn seat_named(names: &[Address], a: Address) -> Option<usize>
     names.iter().position(|b| is_same(a, *b))
 }
 
-// The low byte is asked first: it tells most addresses apart.
+// The low byte is asked first: it tells most addresses apart, and `==` alone begins with the high one.
 fn is_same(a: Address, b: Address) -> bool
     ensures { result ≡ equals a b }
 {

@@ -14,6 +14,7 @@ pub enum Whom {
     // By its place in the row.
     Seat(usize),
     All,
+    // No Option: promises and screen go by the three cases (`is_for`, `counted_for`).
     Nobody,
 }
 
@@ -64,7 +65,7 @@ pub enum Round {
     All,
 }
 
-// Whom a message is for, as far as its reading tells.
+// Whom a message is for, as far as its reading tells. No Result: its two refusals come behind result 9, so nothing is handed on by `?`.
 #[derive(Clone, Copy)]
 pub enum Scope {
     // Nobody, as it is too short or too long: result 1.
@@ -92,7 +93,8 @@ pub struct Progress {
     pub seat: usize,
     pub answer: ClassAnswer,
     pub round: Round,
-    // The addresses of the seats before this one, and of all once they are noted.
+    // The addresses of the seats before this one, and of all once they are noted. An array, as there is no heap: `seat` and `round` say how
+    // many are noted.
     pub names: [Address; 16],
     pub task: Task,
 }

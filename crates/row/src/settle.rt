@@ -10,7 +10,8 @@ use results::Outcome;
 use wire::address::Address;
 use wire::kind::Message;
 
-// For whoever has the addresses together, and not a row that is lent: the first round is over at once.
+// For whoever has the addresses together, and not a row that is lent: the first round is over at once. Seats beside the array, as more than
+// sixteen are refused with their result.
 #[tactic(auto, using(crate::proofs::Fit::fit), unfolding(basis::specs::Choice::choose, crate::specs::Round::opened, crate::specs::Round::noticed))]
 pub fn noticed(names: [Address; 16], seats: usize, bytes: usize, heard: Message) -> Progress
     ensures { result ≡ noticed names seats bytes heard }

@@ -10,7 +10,7 @@ pub enum MessageKind {
     Cleanup(Request, GroupCommand),
     // From, To, and what it tells the group.
     Broadcast(Address, Address, GroupCommand),
-    // None of our business: result 3.
+    // None of our business: result 3. A kind and no refusal, as the paper has four kinds, and a class asks of each whom it is for.
     Foreign,
 }
 

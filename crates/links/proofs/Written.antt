@@ -105,7 +105,7 @@ module _ (l : List ℕ) (k : ℕ) (bytes : List ℕ) (few : length bytes ≤ 8) 
   pub live_after : live_list (written l k bytes) ≡ live_list_of (records l) (after_write l k bytes)
   live_after = rw length-written (list_alike (records l) _ _ after_write_lem (records l) 0 (omega arith))
 
--- a write, made or not, keeps the length, and so every record stands where it stood
+-- a write, made or not, keeps the length
 pub length_kept : (l : List ℕ) (k : ℕ) (bytes : List ℕ) → length (written_if_there l k bytes) ≡ length l
 unfolding written_if_there
 length_kept l k bytes =
@@ -114,6 +114,3 @@ length_kept l k bytes =
     let p = both (ltb k (records l)) (leb (length bytes) 8) q in
     length-written l k bytes (leb-true (length bytes) 8 p.1) (ltb-true k (records l) p.0))
     (λ q. refl)
-
-pub places_kept : (l : List ℕ) (k : ℕ) (bytes : List ℕ) (i : ℕ) → start_of (written_if_there l k bytes) i ≡ start_of l i
-places_kept l k bytes i = as_long (written_if_there l k bytes) l i (length_kept l k bytes)

@@ -1,7 +1,7 @@
 // What a message may alter goes back into its places; every other byte stays.
 ghost use Rattle.std.specs.Prelude.{◌≡◌};
 ghost use Rattle.module.specs.Module.{kind_of};
-ghost use Rattle.image.specs.Image.{byte_of, load_values, with_values, stored_in, stored_if_own};
+ghost use Rattle.image.specs.Image.{load_values, with_values, stored_in, stored_if_own};
 
 use crate::held::is_kind;
 use crate::places;

@@ -1,7 +1,7 @@
 // What a message may alter goes back into its places; every other byte stays.
 ghost use Rattle.std.specs.Prelude.{◌≡◌};
 ghost use Rattle.module.specs.Module.{kind_of};
-ghost use Rattle.image.specs.Image.{load_values, with_values, stored_in, stored_if_own};
+ghost use Rattle.image.specs.Image.{byte_of, load_values, with_values, stored_in, stored_if_own};
 
 use crate::held::is_kind;
 use crate::places;
@@ -62,6 +62,13 @@ fn store_lamp(image: &mut [u8; LENGTH], lamp: Lamp)
 fn store_sockets(image: &mut [u8; LENGTH], sockets: Sockets)
     ensures { image.new ≡ with_values (load_values (Load.Outlet sockets)) image.old }
 {
-    image[places::TOP] = u8::from(sockets.top);
-    image[places::BOTTOM] = u8::from(sockets.bottom);
+    image[places::TOP] = byte_of(sockets.top);
+    image[places::BOTTOM] = byte_of(sockets.bottom);
+}
+
+// By hand, as the definition has it: with `u8::from` the proof of `store_sockets` did not close.
+fn byte_of(is_on: bool) -> u8
+    ensures { result ≡ byte_of is_on }
+{
+    if is_on { 0x01 } else { 0x00 }
 }

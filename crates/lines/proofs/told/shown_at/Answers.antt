@@ -7,10 +7,6 @@ pub returns-in-Alone : goal.returns-in-Alone
 unfolding shown_at choose
 returns-in-Alone c = search rules
 
-pub returns-in-Some : goal.returns-in-Some
+pub returns-in-Class : goal.returns-in-Class
 unfolding shown_at choose
-returns-in-Some c = search rules
-
-pub returns-in-None : goal.returns-in-None
-unfolding shown_at choose
-returns-in-None c = search rules
+returns-in-Class c = search rules

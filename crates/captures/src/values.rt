@@ -81,9 +81,10 @@ pub(crate) struct Changes<'a> {
 
 impl<'a> fmt::Display for Changes<'a> {
     fn fmt<W: fmt::Write>(&self, f: &mut fmt::Formatter<W>) -> fmt::Result {
+        let before = self.before;
         let came = self.came;
         for (name, place) in SHARED.iter().chain(load_of(came[places::KIND])) {
-            if let (Some(was), Some(is)) = (self.before.get(*place), came.get(*place))
+            if let (Some(was), Some(is)) = (before.get(*place), came.get(*place))
                 && was != is
             {
                 write!(f, " {name} {is:02x}")?;

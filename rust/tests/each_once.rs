@@ -10,7 +10,7 @@ use std::path::{Path, PathBuf};
 const OPEN: [&str; 2] = ["desk-sit", "desk-teach"];
 
 /// Rows of what a trait gives of a type: where it is given, and by which words.
-const GIVEN: [(&str, &str, &str); 11] = [
+const GIVEN: [(&str, &str, &str); 12] = [
     (
         "wire-equals",
         "wire/src/address.rt",
@@ -55,6 +55,11 @@ const GIVEN: [(&str, &str, &str); 11] = [
         "load-fresh-sockets",
         "load/src/state.rt",
         "is_default = { λ sockets. sockets ≡ fresh_sockets }",
+    ),
+    (
+        "letters-write-str",
+        "letters/src/lib.rt",
+        "ghost write_str_gives = { Lays }",
     ),
     (
         "dimmer-entry-of",

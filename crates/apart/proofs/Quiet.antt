@@ -71,10 +71,6 @@ module _ (m : Module) (l s room : List ℕ) (b : is_broadcast s ≡ true) where
   unfolding ruling_by
   nothing_due = either (λ (r : Ruling). r.plan.due ≡ Due.Nothing) (is_fit l) heard_quiet refl
 
-  pub no_reply : (step_of m l s room).reply ≡ []
-  unfolding choose
-  no_reply = rw (nothing_due, le-ltb (length room) 0 zero-le)
-
   pub same_room : (step_of m l s room).room ≡ room
   unfolding choose
   same_room = rw (nothing_due, le-ltb (length room) 0 zero-le)

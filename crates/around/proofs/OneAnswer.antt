@@ -14,6 +14,8 @@ use Rattle.class.specs.Seats.{SeatsCome}
 use Rattle.seating.specs.declared.heed.Seating.{Seating}
 use Rattle.seating.specs.Heed.{Heed, Heeds}
 use Rattle.modem.specs.Serve.{Turn, ServePromise}
+use Rattle.letters.specs.Page.{Page}
+use Rattle.letters.specs.Laid.{Begins}
 use Rattle.image.specs.Returned.{Returned, Returns}
 use Rattle.around.specs.OneAnswer.{Only, Delivered, Called, ClassCalled, SeatsCalled, HeedCalled, EachOnce}
 
@@ -106,6 +108,9 @@ embedded t x y p q =
       report = by_value _ _ _ p.report-after q.report-after i;
     }
 
+begun : (bytes : List ℕ) → Only (λ (page : Page). Begins bytes page)
+begun bytes x y p q = λ i. record { laid = by_value _ _ _ p.0 q.0 i; behind = by_value _ _ _ p.1 q.1 i }
+
 pub each_once : EachOnce
 each_once =
     record {
@@ -177,7 +182,7 @@ each_once =
       image-tell = λ _ _ _. by_value _;
       embed-dreelish-step = λ _ _ _ _ _. embedded _;
       embed-class-dreelish-class-step = λ _ _ _ _ _ _. embedded _;
-      letters-new = λ _ _ _ p q. (p.0 ∙ sym q.0, p.1 ∙ sym q.1);
+      letters-new = λ _. begun _;
       letters-laid = λ _. by_value _;
       wire-equals = λ _ _. by_value _;
       wire-address = λ _. by_value _;
@@ -188,6 +193,7 @@ each_once =
       row-class-number = λ _. by_value _;
       load-fresh-lamp = by_value _;
       load-fresh-sockets = by_value _;
+      letters-write-str = λ _ _. by_value _;
       dimmer-entry-of = λ _ _ _ _. by_value _;
       outlet-entry-of = λ _ _ _ _. by_value _;
     }

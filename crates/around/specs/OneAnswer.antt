@@ -81,8 +81,8 @@ use Rattle.roster.specs.Word.{named}
 use Rattle.roster.specs.Seat.{fresh_as, fresh_at, bench_of}
 use Rattle.roster.specs.Line.{Line, line_of}
 use Rattle.roster.specs.Roster.{roster_of}
-use Rattle.letters.specs.declared.Line as letters
-use Rattle.letters.specs.Laid.{laid_in, Begins}
+use Rattle.letters.specs.Page.{Page}
+use Rattle.letters.specs.Laid.{laid_in, Begins, Lays}
 use Rattle.image.specs.Image.{is_image, held_in, stored_if_own}
 use Rattle.image.specs.Returned.{Returned, Returns}
 use Rattle.embed.specs.Call.{returned_of}
@@ -204,8 +204,8 @@ pub record EachOnce : Type 1 where
       → Only (λ (c : Returned). Returns (returned_of image l s room report) c.number c.image c.links c.room c.report)
   pub embed-class-dreelish-class-step : (images : List ℕ) (n : ℕ) (l s room report : List ℕ)
       → Only (λ (c : Returned). Returns (class_returned_of images n l s room report) c.number c.image c.links c.room c.report)
-  pub letters-new : (bytes : List ℕ) (x y : letters.Line) → Begins bytes x → Begins bytes y → (laid_in x ≡ laid_in y) × (x.bytes.now ≡ y.bytes.now)
-  pub letters-laid : (line : letters.Line) → Only (λ (r : List ℕ). r ≡ laid_in line)
+  pub letters-new : (bytes : List ℕ) → Only (λ (page : Page). Begins bytes page)
+  pub letters-laid : (page : Page) → Only (λ (r : List ℕ). r ≡ laid_in page)
   -- what a trait of std's, or the trait of kinds, gives of a type
   pub wire-equals : (a b : Address) → Only (λ (r : Bool). r ≡ equals a b)
   pub wire-address : (bytes : List ℕ) → Only (λ (r : Address). r ≡ address_at bytes 0)
@@ -216,6 +216,7 @@ pub record EachOnce : Type 1 where
   pub row-class-number : (o : ClassOutcome) → Only (λ (r : ℕ). r ≡ class_number_of o)
   pub load-fresh-lamp : Only (λ (r : Lamp). r ≡ fresh_lamp)
   pub load-fresh-sockets : Only (λ (r : Sockets). r ≡ fresh_sockets)
+  pub letters-write-str : (page : Page) (text : List ℕ) → Only (λ (after : Page). Lays page text after)
   pub dimmer-entry-of : (lamp : Lamp) (q : Request) (d : List ℕ) (command : Command) → Only (λ (r : LoadEntry Lamp). r ≡ dimmer.entry_of lamp q d command)
   pub outlet-entry-of : (sockets : Sockets) (q : Request) (d : List ℕ) (command : Command)
       → Only (λ (r : LoadEntry Sockets). r ≡ outlet.entry_of sockets q d command)

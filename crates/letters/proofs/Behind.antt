@@ -1,28 +1,31 @@
 -- A piece more, laid behind what is laid.
-use Rattle.std.proofs.Common.{◌≡◌, ℕ, ◌+◌, ◌-◌, ◌<◌, ◌≤◌, List, ◌++◌, length, take, drop, refl, sym, ap, ◌∙◌, append_assoc, arith, length-append, length-take-le, take_at}
+use Rattle.std.proofs.Common.{◌≡◌, ℕ, ◌+◌, ◌-◌, ◌<◌, ◌≤◌, List, ◌++◌, length, take, drop, refl, sym, ap, ◌∙◌, append_assoc, arith, length-append, length-drop, length-take-le, take_at}
+use lib.Seq.{drop_at}
 use borrow.Author.Tests.{le-ltb, lt-ltb}
 use borrow.Rule.Slice.PartMut.{put_mid, mid_of}
 use Rattle.basis.specs.Choice.{choose}
 use Rattle.basis.specs.Laid.{laid_if_fits}
 use Rattle.basis.proofs.Laid.{inner}
+use Rattle.letters.specs.Page.{cut_at}
 use Rattle.letters.specs.Laid.{laid_behind}
 
 module _ (n : ℕ) (xs text : List ℕ) (inside : n ≤ length xs) where
-  long : length (take n xs) + length text ≡ n + length text
-  long = ap (λ (k : ℕ). k + length text) (length-take-le n xs inside)
-
   -- it fits
   pub grown : (ys : List ℕ) → length text ≤ length xs - n → ys ≡ laid_if_fits (mid_of n (length xs - n) xs) text
-      → take (n + length text) (put_mid n (length xs - n) xs ys) ≡ laid_behind (length xs) (take n xs) text
+      → cut_at (n + length text) (put_mid n (length xs - n) xs ys) ≡ laid_behind (cut_at n xs) text
   unfolding laid_behind choose
   grown ys h e =
-      let rest : List ℕ = drop (length text) (drop n xs) in
-      let whole : put_mid n (length xs - n) xs ys ≡ (take n xs ++ text) ++ rest = inner n xs ys text h e ∙ sym (append_assoc (take n xs) text rest) in
-      let size : length (take n xs ++ text) ≡ n + length text = length-append (take n xs) text ∙ long in
-      let fits : n + length text ≤ length xs = omega (arith, h, inside) in
-      rw (long, le-ltb (length xs) (n + length text) fits, whole) (take_at (take n xs ++ text) rest (n + length text) size)
+      let laid : List ℕ = take n xs ++ text in
+      let behind : List ℕ = drop (length text) (drop n xs) in
+      let whole : put_mid n (length xs - n) xs ys ≡ laid ++ behind = inner n xs ys text h e ∙ sym (append_assoc (take n xs) text behind) in
+      let size : length laid ≡ n + length text =
+      length-append (take n xs) text ∙ ap (λ (k : ℕ). k + length text) (length-take-le n xs inside) in
+      let fits : length text ≤ length (drop n xs) = omega (arith, h, length-drop n xs) in
+      rw (le-ltb (length (drop n xs)) (length text) fits, whole, take_at laid behind (n + length text) size, drop_at laid behind (n + length text) size) refl
 
   -- it does not, and is left out
-  pub left : length xs - n < length text → take n xs ≡ laid_behind (length xs) (take n xs) text
+  pub left : length xs - n < length text → cut_at n xs ≡ laid_behind (cut_at n xs) text
   unfolding laid_behind choose
-  left h = let over : length xs < n + length text = omega (arith, h, inside) in rw (long, lt-ltb (length xs) (n + length text) over) refl
+  left h =
+      let over : length (drop n xs) < length text = omega (arith, h, length-drop n xs) in
+      rw (lt-ltb (length (drop n xs)) (length text) over) refl

@@ -1,2 +1,2 @@
--- Laws of what is laid.
+-- A piece more, laid behind what is laid.
 pub mod Behind

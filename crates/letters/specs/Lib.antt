@@ -1,2 +1,3 @@
--- What is laid in a line.
+-- What is laid in a line, and what a piece of text more comes to.
+pub mod Page
 pub mod Laid

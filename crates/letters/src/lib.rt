@@ -1,20 +1,30 @@
 // Text laid behind what is laid already, in a buffer that is lent. A piece that no longer fits whole is left out.
 #![tactic(auto)]
 
-ghost use Rattle.std.specs.Prelude.{◌≡◌, ◌≤◌, length};
+ghost use Rattle.std.specs.Prelude.{◌≡◌};
+ghost use Rattle.letters.specs.Laid.{laid_in, Begins, Lays};
 
 use std::fmt;
+use std::marker::Model;
 
 #[derive(Drop)]
 pub struct Line<'a> {
     bytes: &'a mut [u8],
     len: usize,
-    ghost inside: { len ≤ length bytes.now },
+}
+
+impl<'a> Model for Line<'a> {
+    ghost use Rattle.std.specs.Prelude.{◌≤◌, length};
+    ghost use Rattle.letters.specs.Page.{Page, cut_at};
+
+    ghost Value = { Page };
+
+    ghost view = { λ a. cut_at a.len a.bytes.now };
+
+    ghost invariant = { λ a. a.len ≤ length a.bytes.now };
 }
 
 impl<'a> Line<'a> {
-    ghost use Rattle.letters.specs.Laid.{laid_in, Begins};
-
     // Nothing is laid yet.
     pub fn new(bytes: &'a mut [u8]) -> Line<'a>
         ensures { Begins bytes.old result }
@@ -33,7 +43,6 @@ impl<'a> Line<'a> {
 // No piece is refused: what comes behind one that is left out is laid where it fits.
 impl fmt::Write for Line<'_> {
     ghost use Rattle.std.specs.Prelude.{IsOk};
-    ghost use Rattle.letters.specs.Laid.{Lays};
 
     ghost write_str_gives = { Lays };
 

@@ -1,13 +1,13 @@
 -- Bytes laid one after another: the remaining part of a room, lent and back.
 use Prim.Native.Nat.{ℕ, ◌+◌, ◌-◌, ◌≤◌, ◌<◌}
-use mathlib.Core.Path.{◌≡◌, sym, ◌∙◌, ap}
+use mathlib.Core.Path.{◌≡◌, refl, sym, ◌∙◌, ap}
 use mathlib.Core.List.{List, ◌++◌, append_assoc, append-nil}
 use native.Mathlib.Nat.{zero-add, le_of_eq, add_assoc}
 use native.Mathlib.Numerals.{add-one}
 use native.Mathlib.Omega.{arith}
 use lib.ListN.{length, take, drop, set, get_or, length-drop, length-append, drop_of_length-le}
 use lib.Seq.{length-take-le, take_at, drop_at, paste-suc, take_all, take-append_seam, drop-append_seam, drop-drop}
-use borrow.Author.Tests.{le-ltb}
+use borrow.Author.Tests.{le-ltb, lt-ltb}
 use borrow.Rule.Slice.PartMut.{put_mid, mid_of}
 use Rattle.basis.specs.Choice.{choose}
 use Rattle.basis.specs.Laid.{laid, laid_if_fits}
@@ -16,6 +16,11 @@ use Rattle.basis.specs.Laid.{laid, laid_if_fits}
 pub fits : (room bytes : List ℕ) → length bytes ≤ length room → laid_if_fits room bytes ≡ laid bytes room
 unfolding laid_if_fits choose
 fits room bytes h = rw (le-ltb (length room) (length bytes) h)
+
+-- where they do not fit nothing is
+pub left : (room bytes : List ℕ) → length room < length bytes → room ≡ laid_if_fits room bytes
+unfolding laid_if_fits choose
+left room bytes h = rw (lt-ltb (length room) (length bytes) h) refl
 
 -- one byte more is copied
 pub copied : (room bytes : List ℕ) (j : ℕ) → j < length room → j < length bytes → set (take j bytes ++ drop j room) j (get_or bytes j 0) ≡ take (j + 1) bytes ++ drop (j + 1) room

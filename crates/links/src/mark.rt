@@ -14,7 +14,7 @@ pub fn up_to_mark(links: &[u8], k: usize, n: usize) -> usize
     if count <= k {
         return 0;
     }
-    count_to_mark(links, k, basis::min(n, count - k))
+    count_to_mark(links, k, n.min(count - k))
 }
 
 // The same of records that are there.

@@ -71,13 +71,14 @@ pub(crate) fn record_at(links: &[u8], k: usize) -> [u8; 8]
 pub(crate) fn link_of(record: [u8; 8]) -> Link
     ensures { result ≡ link_of «record» }
 {
+    let [flags, group, high, middle, low, d1, d2, d3] = record;
     Link {
-        flags: record[0],
-        group: record[1],
-        address: Address::from([record[2], record[3], record[4]]),
-        d1: record[5],
-        d2: record[6],
-        d3: record[7],
+        flags,
+        group,
+        address: Address { high, middle, low },
+        d1,
+        d2,
+        d3,
     }
 }
 
@@ -105,5 +106,5 @@ pub(crate) fn is_responder(record: [u8; 8]) -> bool
 pub(crate) fn bears(record: [u8; 8], address: Address) -> bool
     ensures { result ≡ bears «record» address }
 {
-    Address::from([record[2], record[3], record[4]]) == address
+    link_of(record).address == address
 }

@@ -60,11 +60,13 @@ impl Head {
     }
 }
 
-// An extended message, twenty-three bytes: its head, and fourteen bytes of data directly behind it.
+// An extended message, twenty-three bytes: its head, and fourteen bytes of data directly behind it. Nothing where it does not fit.
 pub(crate) fn put_extended(room: &mut [u8], head: &[u8; 9], data: &[u8; 14])
-    requires { 23 ≤ length room.old }
     ensures { room.new ≡ laid_if_fits room.old (head.now ++ «data».now) }
 {
+    if room.len() < 23 {
+        return;
+    }
     basis::lay(room, head);
     basis::lay(&mut room[9..], data);
 }

@@ -201,20 +201,19 @@ fn data_of(message: &[u8]) -> [u8; 14]
 fn named_in(message: &[u8]) -> Address
     ensures { result ≡ named_in message.now }
 {
-    match message.first_chunk() {
-        Some(head) => to_of(head),
-        None => Address::default(),
-    }
+    message.first_chunk().map(to_of).unwrap_or_default()
 }
 
 fn from_of(head: &[u8; 9]) -> Address
     ensures { result ≡ from_of head.now }
 {
-    Address::from([head[0], head[1], head[2]])
+    let [high, middle, low, ..] = *head;
+    Address { high, middle, low }
 }
 
 fn to_of(head: &[u8; 9]) -> Address
     ensures { result ≡ to_of head.now }
 {
-    Address::from([head[3], head[4], head[5]])
+    let [_, _, _, high, middle, low, ..] = *head;
+    Address { high, middle, low }
 }

@@ -1,13 +1,9 @@
 use Rattle.std.proofs.Common.{◌≡◌, length, arith, take_all, sym, ◌∙◌}
-use borrow.Author.Tests.{lt-ltb}
-use Rattle.basis.specs.Choice.{choose}
-use Rattle.basis.specs.Laid.{laid_if_fits}
-use Rattle.basis.proofs.Laid.{fits, copied}
+use Rattle.basis.proofs.Laid.{fits, left, copied}
 use Rattle.basis.proofs.lay.Goals as goal
 
 pub returns-then-room-bytes : goal.returns-then-room-bytes
-unfolding laid_if_fits choose
-returns-then-room-bytes c = rw (lt-ltb _ _ c.if-room-bytes.true)
+returns-then-room-bytes c = left _ _ c.if-room-bytes.true
 
 pub loop-i-preserved : goal.loop-i-preserved
 loop-i-preserved c =

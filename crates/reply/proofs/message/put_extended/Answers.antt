@@ -5,8 +5,11 @@ use native.Mathlib.Omega.{arith}
 use lib.ListN.{length, length-append}
 use borrow.Rule.Slice.PartMut.{put_mid, mid_of}
 use Rattle.basis.specs.Laid.{laid, laid_if_fits}
-use Rattle.basis.proofs.Laid.{fits, behind}
+use Rattle.basis.proofs.Laid.{fits, left, behind}
 use Rattle.reply.proofs.message.put_extended.Goals as goal
+
+pub returns-then-room-lt23 : goal.returns-then-room-lt23
+returns-then-room-lt23 c = left _ _ (omega (arith, c.if-room-lt23.true, length-append c.args.head.now c.args.data.now))
 
 pub returns : goal.returns
 returns c =

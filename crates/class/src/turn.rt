@@ -17,8 +17,9 @@ pub struct Tended {
     pub progress: Progress,
 }
 
-// The round tells what the turn is for: all that a row does is decided here, and the walk along it does not look. `Ready` is asked for here,
-// in `step_in` and in `tend`, and is no invariant of a type: it is a fact of the progress and of the link memory that is lent beside it.
+// The round tells what the turn is for: all that a row does is decided here, and the walk along it does not look. A match and no closure,
+// as the definitions match too (`turn_of`). `Ready` is asked for here, in `step_in` and in `tend`, and is no invariant of a type: it is a
+// fact of the progress and of the link memory that is lent beside it.
 pub(crate) fn turn(
     m: Module,
     t: Progress,

@@ -16,7 +16,7 @@ use shared::table::shared_deed;
 use wire::command::{Command, GroupCommand};
 use wire::request::Request;
 
-// A direct command, with the data bytes beside it, and `records` records in link memory.
+// A direct command, with the data bytes beside it, and `records` records in link memory. Five parameters and no struct, as in `shared`.
 pub(crate) fn deed_of(
     m: Module,
     r: Request,

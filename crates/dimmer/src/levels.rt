@@ -23,6 +23,7 @@ pub(crate) fn high_then_f(two: u8) -> u8
     two / 16 * 16 + 15
 }
 
+// Of at most 25,627, so that the quotient is a byte; `try_from` would have an error that cannot arise, here and below.
 pub(crate) fn percent_of(level: u8) -> u8
     ensures { result ≡ percent_of level }
 {

@@ -106,5 +106,6 @@ pub(crate) fn is_responder(record: [u8; 8]) -> bool
 pub(crate) fn bears(record: [u8; 8], address: Address) -> bool
     ensures { result ≡ bears «record» address }
 {
-    link_of(record).address == address
+    let [_, _, high, middle, low, ..] = record;
+    Address { high, middle, low } == address
 }

@@ -23,7 +23,8 @@ pub struct Properties {
     pub on_level: u8,
 }
 
-// What a table has for a command, and the load afterwards: a kind's own load, or one of any kind.
+// What a table has for a command, and the load afterwards: a kind's own load, or one of any kind. The load stands beside `Done` and not in
+// it, as the legal tables (`Dimmer`, `Outlet`) say the load and the entry of every row.
 #[derive(Clone, Copy)]
 pub struct LoadEntry<L> {
     pub load: L,

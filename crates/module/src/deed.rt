@@ -20,7 +20,8 @@ pub enum Ack {
     WithRecords(Asked),
 }
 
-// What goes over the first bytes of a record: so many of the message's, from Data 6 on, where they stay until they are written.
+// What goes over the first bytes of a record: so many of the message's, from Data 6 on. A number and no slice: the bytes stay in the message
+// until they are written ("What form each place takes").
 #[derive(Clone, Copy)]
 pub struct Write {
     pub index: usize,

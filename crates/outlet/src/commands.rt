@@ -1,5 +1,5 @@
 // What a command does to an outlet's sockets: standard ones to the top socket, extended ones to the bottom one (request 1). It shares
-// no row with a dimmer's.
+// no row with a dimmer's, and neither do its properties and groups, so that each kind has functions of its own for these.
 ghost use Rattle.std.specs.Prelude.{◌≡◌, ◌≤◌};
 ghost use Rattle.outlet.specs.Load.{at_top, at_bottom, full_of, bit_of, both_of, status_entry, load_entry, bottom_entry, second_entry};
 

@@ -1,6 +1,7 @@
 // What became of a message ("Result numbers").
 #![tactic(auto)]
 
+// No Result: the paper numbers all of them as results, and `number_of` goes by its list.
 #[derive(Clone, Copy)]
 pub enum Outcome {
     Done,

@@ -89,7 +89,7 @@ pub struct Task {
 // How far the row is with a message: what moves with each turn, and the task, which stays.
 #[derive(Clone, Copy)]
 pub struct Progress {
-    // Whose turn it is; the number of seats where no turn is left.
+    // Whose turn it is; the number of seats where no turn is left: no Option, as `opened`, `ended` and `Ready` count by it.
     pub seat: usize,
     pub answer: ClassAnswer,
     pub round: Round,

@@ -38,6 +38,8 @@ pub fn settle(t: Progress) -> Progress
     settled(t)
 }
 
+// That there are no more than sixteen is asked for here, and in `class` twice, and is no ghost field of `Task`: the definitions that the
+// theorems on classes go over build tasks of any number of seats (`opened`), to say what is answered then.
 fn settled(t: Progress) -> Progress
     requires { t.task.seats ≤ 16 }
     ensures { result ≡ settled t }

@@ -23,10 +23,11 @@ pub enum Unread {
     BadSum,
 }
 
-// A message that was read: To, what it comes to, and Data 1 to Data 14 beside its kind, 00 where it has none.
+// A message that was read: To, what it comes to, and Data 1 to Data 14 beside its kind, 00 where it has none: "What form each place takes"
+// has them there.
 #[derive(Clone, Copy)]
 pub struct Message {
-    // Nobody's address, 00 00 00, where the message is too short to say.
+    // Nobody's address, 00 00 00, where the message is too short to say: no Option, as `named_in`, which says so, is of addresses.
     pub to: Address,
     pub reading: Result<MessageKind, Unread>,
     pub data: [u8; 14],

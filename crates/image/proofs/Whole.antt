@@ -5,9 +5,10 @@ use Rattle.std.specs.Prelude.{Option, None, Some}
 use mathlib.Core.Bool.{Bool, true, false}
 use mathlib.Core.List.{List}
 use native.Mathlib.Omega.{arith}
+use Rattle.std.proofs.lemmas.Bool.Decides.{nat_tests}
 use lib.Dec.{eqb}
 use lib.ListN.{length, get_or}
-use borrow.Author.Tests.{eqb-true, eqb-false, eq-eqb, leb-true}
+use borrow.Author.Tests.{eqb-true, eq-eqb}
 use Rattle.basis.specs.Choice.{choose}
 use Rattle.basis.specs.Spell.{spell}
 use Rattle.basis.specs.Table.{among}
@@ -58,14 +59,7 @@ is_socket_lem false = refl
 
 written_back : (x : ℕ) → is_socket x ≡ true → byte_of (is_on x) ≡ x
 unfolding byte_of choose
-written_back x h = go (eqb x 1) refl
-  where
-    go : (b : Bool) → eqb x 1 ≡ b → choose b 0x01 0x00 ≡ x
-    go true e = sym (eqb-true x 1 e)
-    go false e =
-        let most = leb-true x 1 h in
-        let other = eqb-false x 1 e in
-        sym (omega (arith, most, other))
+written_back x h = grind (arith, nat_tests)
 
 -- the load that a kind has
 dimmer_there : (s : List ℕ) → get_or s KIND 0 ≡ 1 → load_of s ≡ Load.Dimmer (record { level = get_or s LEVEL 0; ramp = get_or s RAMP 0; on_level = get_or s ON_LEVEL 0 })

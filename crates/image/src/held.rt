@@ -11,6 +11,7 @@ use module::state::{Identity, Module};
 use wire::address::Address;
 
 // None where it is no image.
+#[tactic(auto, unfolding(crate::specs::Image::held_in, crate::specs::Image::is_image, basis::specs::Choice::choose))]
 pub fn held_in(image: &[u8]) -> Option<Module>
     ensures { result ≡ held_in image.now }
 {
@@ -23,6 +24,7 @@ pub fn held_in(image: &[u8]) -> Option<Module>
 }
 
 // Whether it has the length of images, is of a kind that there is, and can be that kind's.
+#[tactic(auto, unfolding(crate::specs::Image::is_image))]
 pub fn is_image(image: &[u8]) -> bool
     ensures { result ≡ is_image image.now }
 {
@@ -33,6 +35,7 @@ pub fn is_image(image: &[u8]) -> bool
 }
 
 // Any byte can be a dimmer's; a socket is 00 or 01.
+#[tactic(auto, using(basis::proofs::Table::missed), unfolding(basis::specs::Choice::choose))]
 pub(crate) fn is_kind(image: &[u8; LENGTH]) -> bool
     ensures { result ≡ among (get_or image.now KIND 0) false (kinds image.now) }
 {
@@ -75,6 +78,7 @@ fn identity_of(image: &[u8; LENGTH]) -> Identity
 }
 
 // What is no outlet is a dimmer, as an image is of one of the two.
+#[tactic(auto, unfolding(crate::specs::Image::load_of, basis::specs::Choice::choose))]
 fn load_of(image: &[u8; LENGTH]) -> Load
     ensures { result ≡ load_of image.now }
 {

@@ -3,6 +3,7 @@ ghost use Rattle.std.specs.Prelude.{◌≡◌, [], ◌∷◌};
 ghost use Rattle.basis.specs.Laid.{laid_if_fits};
 
 // A report shorter than two numbers is left as it is.
+#[tactic(auto, using(basis::proofs::Laid::fits), unfolding(basis::specs::Laid::laid_if_fits, basis::specs::Choice::choose))]
 pub fn tell(report: &mut [u64], sent: usize, read: usize)
     ensures { report.new ≡ laid_if_fits report.old (sent ∷ read ∷ []) }
 {

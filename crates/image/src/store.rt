@@ -10,6 +10,7 @@ use load::state::{Lamp, Load, Sockets};
 use module::state::Module;
 
 // A module of another kind than the image's is not stored.
+#[tactic(auto, unfolding(crate::specs::Image::stored_if_own, crate::specs::Image::is_image, basis::specs::Choice::choose))]
 pub fn store(image: &mut [u8], m: Module)
     ensures { image.new ≡ stored_if_own image.old m }
 {
@@ -67,6 +68,7 @@ fn store_sockets(image: &mut [u8; LENGTH], sockets: Sockets)
 }
 
 // By hand, as the definition has it: with `u8::from` the proof of `store_sockets` did not close.
+#[tactic(auto, unfolding(crate::specs::Image::byte_of, basis::specs::Choice::choose))]
 fn byte_of(is_on: bool) -> u8
     ensures { result ≡ byte_of is_on }
 {

@@ -1,23 +1,27 @@
 -- Line after line: the next one begins further on, and what is read so far with what is left gives the whole.
-use Prim.Native.Nat.{ℕ, zero, suc, ◌+◌, ◌≤◌, ◌<◌}
+use Prim.Native.Nat.{ℕ, zero, suc, ◌+◌, ◌-◌, ◌≤◌, ◌<◌}
 use mathlib.Core.Path.{◌≡◌, refl, sym, ◌∙◌}
 use mathlib.Core.List.{List}
 use native.Mathlib.Omega.{arith}
 use lib.Dec.{ltb}
-use lib.ListN.{length}
+use lib.ListN.{length, take, drop}
 use borrow.Author.Tests.{lt-ltb, le-ltb, ltb-true}
 use Rattle.std.specs.Prelude.{Some, None, Ok, Err}
 use Rattle.basis.specs.Choice.{choose}
 use Rattle.basis.proofs.Choice.{by}
 use Rattle.roster.specs.declared.roster.Roster.{Roster}
 use Rattle.roster.specs.Line.{Line, line_of}
-use Rattle.roster.specs.Roster.{text_start, ends_at, line_end, line_next, line_at, empty_roster, with_line, roster_from, roster_of}
-use Rattle.roster.proofs.Places.{bounds}
+use Rattle.roster.specs.Roster.{text_start, is_end, ends_at, line_end, line_next, line_at, empty_roster, with_line, roster_from, roster_of}
+use Rattle.roster.proofs.Places.{bounds, found, place}
 
 -- a line ends in the text, not before it begins
 pub ends : (s : List ℕ) (i : ℕ) → i ≤ length s → (i ≤ line_end s i) × (line_end s i ≤ length s)
 unfolding line_end
 ends s i h = bounds (ends_at s) (length s) i h
+
+pub first_end : (s : List ℕ) (i : ℕ) → i ≤ length s → line_end s i ≡ found is_end s i
+unfolding line_end
+first_end s i h = place is_end s i h
 
 -- the next begins behind it, at most where the text ends
 pub further : (s : List ℕ) (i e : ℕ) → i < length s → i ≤ e → (i < line_next s e) × (line_next s e ≤ length s)
@@ -49,7 +53,7 @@ counts_on r number (Ok None) = omega arith
 counts_on r number (Ok (Some m)) = omega arith
 counts_on r number (Err e) = omega arith
 
--- what is read of the text up to a place, which is k lines
+-- what is read of the text up to a place, which is k lines; and what is then still to come
 pub record Read (s : List ℕ) (i k : ℕ) (r : Roster) : Type 0 where
   pub inside : i ≤ length s
   pub numbered : k ≤ i
@@ -57,16 +61,37 @@ pub record Read (s : List ℕ) (i k : ℕ) (r : Roster) : Type 0 where
   pub left : ℕ
   pub enough : length s ≤ i + left
   pub gives : roster_from left s i k r ≡ roster_of s
-
-pub nothing_read : (s : List ℕ) → text_start s ≤ length s → Read s (text_start s) 0 empty_roster
-nothing_read s h = record { inside = h; numbered = omega arith; counted = omega arith; left = length s; enough = omega arith; gives = refl }
+  pub ends_behind : i ≤ line_end s i
+  pub ends_inside : line_end s i ≤ length s
+  pub next_behind : i < length s → i < next_at s i
+  pub all_read : length s ≤ i → r ≡ roster_of s
 
 module _ (s : List ℕ) (i k : ℕ) (r : Roster) where
-  pub line_read : i < length s → Read s i k r → Read s (next_at s i) (k + 1) (next_with s i k r)
-  line_read h p = go p.left p.enough p.gives
+  read : i ≤ length s → k ≤ i → r.count ≤ k → (n : ℕ) → length s ≤ i + n → roster_from n s i k r ≡ roster_of s → Read s i k r
+  read inside numbered counted n enough gives =
+      let e = ends s i inside in
+      record {
+        inside = inside;
+        numbered = numbered;
+        counted = counted;
+        left = n;
+        enough = enough;
+        gives = gives;
+        ends_behind = e.0;
+        ends_inside = e.1;
+        next_behind = λ h. (further s i (line_end s i) h e.0).0;
+        all_read = λ h. sym (done n s i k r h) ∙ gives;
+      }
+
+pub none_read : (s : List ℕ) (i : ℕ) (r : Roster) → i ≡ text_start s → i ≤ length s → r ≡ empty_roster → Read s i 0 r
+none_read s i r e h q = rw (q, e) (read s (text_start s) 0 empty_roster (rw e at h) (omega arith) (omega arith) (length s) (omega arith) refl)
+
+module _ (s : List ℕ) (i k : ℕ) (r : Roster) where
+  one_read : i < length s → Read s i k r → Read s (next_at s i) (k + 1) (next_with s i k r)
+  one_read h p = go p.left p.enough p.gives
     where
       on : (i < next_at s i) × (next_at s i ≤ length s)
-      on = further s i (line_end s i) h (ends s i p.inside).0
+      on = further s i (line_end s i) h p.ends_behind
 
       line : Line
       line = line_of (line_at s i)
@@ -74,14 +99,11 @@ module _ (s : List ℕ) (i k : ℕ) (r : Roster) where
       go : (n : ℕ) → length s ≤ i + n → roster_from n s i k r ≡ roster_of s → Read s (next_at s i) (k + 1) (next_with s i k r)
       go zero enough gives = absurd (omega arith)
       go (suc n) enough gives =
-          record {
-            inside = on.1;
-            numbered = omega (arith, p.numbered, on.0);
-            counted = omega (arith, p.counted, counts_on r (k + 1) line);
-            left = n;
-            enough = omega (arith, on.0);
-            gives = sym (goes_on n s i k r h) ∙ gives;
-          }
+          read _ _ _ _ on.1 (omega (arith, p.numbered, on.0)) (omega (arith, p.counted, counts_on r (k + 1) line)) n (omega (arith, on.0)) (sym (goes_on n s i k r h) ∙ gives)
 
-  pub all_read : length s ≤ i → Read s i k r → r ≡ roster_of s
-  all_read h p = sym (done p.left s i k r h) ∙ p.gives
+  pub next_read : Read s i k r → i < length s → (e : ℕ) → e ≡ line_end s i → (j : ℕ) → j ≡ line_next s e
+      → (r' : Roster) → r' ≡ with_line r (k + 1) (line_of (take (e - i) (drop i s))) → Read s j (k + 1) r'
+  next_read p h e a j b r' q = rw (q, b, a) (one_read h p)
+
+-- turn by turn
+pub ruleset line_steps = (none_read, next_read)

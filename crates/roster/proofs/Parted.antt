@@ -11,8 +11,8 @@ use borrow.Author.Tests.{lt-ltb, le-ltb, ltb-true, ltb-false, eqb-true, eqb-fals
 use Rattle.basis.specs.Choice.{choose}
 use Rattle.basis.proofs.Tests.{clash}
 use Rattle.basis.proofs.First.{Told, at, nowhere, told}
-use Rattle.roster.specs.Words.{stops_at, bare_length, blank_at, ink_at, word_start, word_end, word_at, words_from}
-use Rattle.roster.proofs.Places.{bounds}
+use Rattle.roster.specs.Words.{is_blank, is_ink, stops_at, bare_length, blank_at, ink_at, word_start, word_end, word_at, words_from}
+use Rattle.roster.proofs.Places.{bounds, found, place}
 
 pub bare_inside : (s : List ℕ) → bare_length s ≤ length s
 unfolding bare_length
@@ -61,6 +61,15 @@ module _ (s : List ℕ) (i : ℕ) where
   unfolding words_from choose
   no_word zero h = refl
   no_word (suc n) h = rw (le-ltb start (length s) h)
+
+-- where a word begins and ends, by what is found in the rest of the line
+pub first_ink : (s : List ℕ) (i : ℕ) → i ≤ length s → word_start s i ≡ found is_ink s i
+unfolding word_start
+first_ink s i h = place is_ink s i h
+
+pub first_blank : (s : List ℕ) (i : ℕ) → i ≤ length s → word_end s i ≡ found is_blank s i
+unfolding word_end
+first_blank s i h = place is_blank s i h
 
 -- enough is enough
 pub enough : (n m : ℕ) (s : List ℕ) (i : ℕ) → i ≤ length s → length s ≤ i + n → length s ≤ i + m → words_from n s i ≡ words_from m s i

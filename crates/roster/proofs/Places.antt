@@ -3,13 +3,12 @@ use Prim.Native.Nat.{ℕ, zero, suc, pred, ◌+◌, ◌-◌, ◌≤◌, ◌<◌}
 use mathlib.Core.Path.{◌≡◌, refl, sym, ◌∙◌, ap}
 use mathlib.Core.Bool.{Bool, true, false, cond, not}
 use mathlib.Core.List.{List, [], ◌∷◌}
-use native.Mathlib.Nat.{add-zero}
+use native.Mathlib.Nat.{add-zero, sub-zero}
 use native.Mathlib.Omega.{arith}
-use lib.Dec.{ltb}
+use Rattle.std.proofs.lemmas.Bool.Decides.{nat_tests}
 use lib.ListN.{length, get_or, take, drop, drop_of_length-le}
 use lib.Seq.{drop-cons}
-use borrow.Author.Tests.{ltb-false}
-use Rattle.std.specs.Prelude.{Some, None, unwrap_or, position}
+use Rattle.std.specs.Prelude.{unwrap_or, position}
 use Rattle.std.specs.List.{position_or_len}
 use Rattle.basis.specs.First.{first_from}
 use Rattle.basis.proofs.Laid.{rest}
@@ -44,6 +43,9 @@ module _ (P : ℕ → Bool) (n i : ℕ) where
     pub ended : n ≤ k → k ≡ first_from P (n - i) i
     ended h = let q : n - k ≡ 0 = omega arith in sym (none P k) ∙ rw q at p.gives
 
+-- turn by turn
+pub ruleset search_steps = (begun, met, passed, ended, sub-zero)
+
 -- of the bytes from place i on: how many stand before the first that passes, which are all where none does
 module _ (t : ℕ → Bool) (s : List ℕ) where
   abbrev passes : ℕ → Bool
@@ -66,24 +68,17 @@ module _ (t : ℕ → Bool) (s : List ℕ) where
 
   few : (xs : List ℕ) → position_or_len t xs ≤ length xs
   few [] = omega arith
-  few (x ∷ xs) = go (t x) (few xs)
-    where
-      go : (b : Bool) → position_or_len t xs ≤ length xs → cond (not b) (1 + position_or_len t xs) 0 ≤ suc (length xs)
-      go true h = omega arith
-      go false h = omega arith
+  few (x ∷ xs) = grind (arith, few xs)
 
   whole : (xs : List ℕ) → unwrap_or (position t xs) (length xs) ≡ position_or_len t xs
-  whole xs = go (ltb (position_or_len t xs) (length xs)) refl
-    where
-      go : (b : Bool) → ltb (position_or_len t xs) (length xs) ≡ b → unwrap_or (cond b (Some (position_or_len t xs)) None) (length xs) ≡ position_or_len t xs
-      go true q = refl
-      go false q = let h = few xs in let k = ltb-false (position_or_len t xs) (length xs) q in omega arith
+  whole xs = grind (arith, few, nat_tests)
 
   -- the first place from i on where one passes
-  pub place : (i n : ℕ) → i ≤ length s → n ≡ unwrap_or (position t (take (length s - i) (drop i s))) (length (take (length s - i) (drop i s)))
-      → i + n ≡ first_from passes (length s - i) i
-  place i n h e =
+  abbrev pub found : ℕ → ℕ
+  found i = let part : List ℕ = take (length s - i) (drop i s) in i + unwrap_or (position t part) (length part)
+
+  pub place : (i : ℕ) → i ≤ length s → first_from passes (length s - i) i ≡ found i
+  place i h =
       let far : i + (length s - i) ≡ length s = omega arith in
-      let part : n ≡ position_or_len t (drop i s) =
-      e ∙ whole (take (length s - i) (drop i s)) ∙ ap (position_or_len t) (rest i s) in
-      ap (λ (z : ℕ). i + z) part ∙ counted (length s - i) i far
+      let part = whole (take (length s - i) (drop i s)) ∙ ap (position_or_len t) (rest i s) in
+      sym (ap (λ (z : ℕ). i + z) part ∙ counted (length s - i) i far)

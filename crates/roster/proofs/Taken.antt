@@ -1,12 +1,12 @@
 -- Byte after byte: those that are taken, with those that the words from a place on are, are all.
-use Prim.Native.Nat.{ℕ, zero, suc, ◌+◌, ◌-◌, ◌≤◌, ◌<◌}
-use mathlib.Core.Path.{◌≡◌, refl, sym, ◌∙◌, ap}
+use Prim.Native.Nat.{ℕ, zero, suc, ◌+◌, ◌≤◌, ◌<◌}
+use mathlib.Core.Path.{◌≡◌, refl, sym, ◌∙◌}
 use mathlib.Core.Bool.{Bool, true, false}
 use mathlib.Core.List.{List, [], ◌∷◌, ◌++◌, append_assoc, append-nil}
 use native.Mathlib.Nat.{add-zero}
 use native.Mathlib.Omega.{arith}
 use lib.Dec.{leb}
-use lib.ListN.{length, take, drop, length-append}
+use lib.ListN.{length, length-append}
 use borrow.Author.Tests.{le-leb, lt-leb}
 use Rattle.std.specs.Prelude.{Option, Some, None}
 use Rattle.basis.specs.Choice.{choose}
@@ -97,37 +97,39 @@ module _ (s : List ℕ) (i k : ℕ) (bytes : List ℕ) (p : Taken s i k bytes) w
     pub other_word : byte_of word ≡ None → None ≡ bytes_of (words_behind s i)
     other_word e = sym (no_byte bytes word (words_from next.0 s end) e) ∙ next.2
 
--- the same where the next word begins, or the line ends
+-- the same where the next word begins, or the line ends; and what is then still to come
 pub record Reached (s : List ℕ) (i k : ℕ) (bytes : List ℕ) : Type 0 where
   pub behind : ℕ
   pub begins : k ≡ word_start s behind
   pub taken : Taken s i behind bytes
-
-module _ (s : List ℕ) (i k : ℕ) (bytes : List ℕ) (p : Reached s i k bytes) where
+  pub further : k < length s → k < word_end s k
+  pub inside : k < length s → word_end s k ≤ length s
   pub all_read : length s ≤ k → Some bytes ≡ bytes_of (words_behind s i)
-  all_read h = all_taken s i p.behind bytes p.taken (omega (arith, p.begins))
-
   pub full : k < length s → 7 ≤ length bytes → None ≡ bytes_of (words_behind s i)
-  full h a = no_more s i p.behind bytes p.taken (omega (arith, p.begins)) a
+  pub no_digits : k < length s → None ≡ byte_of (word_at s k) → None ≡ bytes_of (words_behind s i)
 
-  module _ (h : k < length s) (e : ℕ) (f : e ≡ word_end s k) where
-    pub lies : (k < e) × (e ≤ length s)
-    lies = let w = ends_there s p.behind k p.begins h in (omega arith, omega arith)
+module _ (s : List ℕ) (i : ℕ) where
+  reached : (j : ℕ) (bytes : List ℕ) → Taken s i j bytes → (k : ℕ) → k ≡ word_start s j → Reached s i k bytes
+  reached j bytes p k e =
+      record {
+        behind = j;
+        begins = e;
+        taken = p;
+        further = λ h. (ends_there s j k e h).0;
+        inside = λ h. (ends_there s j k e h).1;
+        all_read = λ h. all_taken s i j bytes p (rw e at h);
+        full = λ h a. no_more s i j bytes p (rw e at h) a;
+        no_digits = λ h q. other_word s i j bytes p (rw e at h) (sym (rw e at q));
+      }
 
-    ends_so : e ≡ word_end s (word_start s p.behind)
-    ends_so = f ∙ ap (word_end s) p.begins
+  pub none_read : (k : ℕ) (bytes : List ℕ) → i ≤ length s → k ≡ word_start s i → bytes ≡ [] → Reached s i k bytes
+  none_read k bytes h e q = rw q (reached i [] (nothing_taken s i h) k e)
 
-    is_word : take (e - k) (drop k s) ≡ word_at s (word_start s p.behind)
-    is_word = λ j. take (ends_so j - p.begins j) (drop (p.begins j) s)
+  pub next_read : (k : ℕ) (bytes : List ℕ) → Reached s i k bytes → k < length s → (b : ℕ) → Some b ≡ byte_of (word_at s k) → length bytes < 7
+      → (k' : ℕ) → k' ≡ word_start s (word_end s k) → (bytes' : List ℕ) → bytes' ≡ bytes ++ b ∷ [] → Reached s i k' bytes'
+  next_read k bytes p h b q a k' g bytes' n =
+      let e = p.begins in
+      rw n (reached _ _ (word-taken s i p.behind bytes p.taken (rw e at h) b a (sym (rw e at q))) k' (rw e at g))
 
-    pub no_digits : None ≡ byte_of (take (e - k) (drop k s)) → None ≡ bytes_of (words_behind s i)
-    no_digits q = other_word s i p.behind bytes p.taken (omega (arith, p.begins)) (sym (q ∙ ap byte_of is_word))
-
-    pub next_read : (b : ℕ) → Some b ≡ byte_of (take (e - k) (drop k s)) → length bytes < 7 → (k' : ℕ) → k' ≡ word_start s e
-        → (bytes' : List ℕ) → bytes' ≡ bytes ++ b ∷ [] → Reached s i k' bytes'
-    next_read b q a k' g bytes' n =
-        record {
-          behind = word_end s (word_start s p.behind);
-          begins = g ∙ ap (word_start s) ends_so;
-          taken = rw n (word-taken s i p.behind bytes p.taken (omega (arith, p.begins)) b a (sym (q ∙ ap byte_of is_word)));
-        }
+-- turn by turn
+pub ruleset byte_steps = (starts, none_read, next_read)

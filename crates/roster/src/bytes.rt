@@ -11,6 +11,7 @@ use arrayvec::ArrayVec;
 pub(crate) type Bytes = ArrayVec<u8, 7>;
 
 // All words from a place on; none where one of them is no byte, or where there are too many.
+#[tactic(auto, using(crate::proofs::Taken::byte_steps))]
 pub(crate) fn bytes_behind(line: &[u8], from: usize) -> Option<Bytes>
     requires { from ≤ length line.now }
     ensures { option_map (λ bytes. bytes.items) result ≡ bytes_of (words_behind line.now from) }
@@ -30,6 +31,7 @@ pub(crate) fn bytes_behind(line: &[u8], from: usize) -> Option<Bytes>
     Some(bytes)
 }
 
+#[tactic(auto, unfolding(crate::specs::Bytes::byte_of))]
 fn byte_of(word: &[u8]) -> Option<u8>
     ensures { result ≡ byte_of word.now }
 {
@@ -39,6 +41,7 @@ fn byte_of(word: &[u8]) -> Option<u8>
     }
 }
 
+#[tactic(auto, unfolding(crate::specs::Bytes::digit_of, basis::specs::Choice::choose))]
 fn digit_of(x: u8) -> Option<u8>
     ensures value { result ≡ digit_of x }
     ensures upper_bound { IfSome result (λ digit. digit < 16) }

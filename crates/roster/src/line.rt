@@ -19,6 +19,7 @@ pub enum BadLine {
 }
 
 // The module that it names, or none where no word stands there.
+#[tactic(auto, using(crate::proofs::Worded::word_steps))]
 pub fn line_of(line: &[u8]) -> Result<Option<Module>, BadLine>
     ensures { result ≡ line_of line.now }
 {
@@ -39,6 +40,7 @@ pub fn line_of(line: &[u8]) -> Result<Option<Module>, BadLine>
 }
 
 // By how many bytes there are.
+#[tactic(auto, unfolding(crate::specs::Line::line_as, basis::specs::Choice::choose))]
 fn line_as(kind: Kind, bytes: &[u8]) -> Result<Option<Module>, BadLine>
     ensures { result ≡ line_as kind bytes.now }
 {

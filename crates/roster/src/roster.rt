@@ -18,6 +18,7 @@ pub struct Roster {
     pub bad: Option<usize>,
 }
 
+#[tactic(auto, using(crate::proofs::Lines::line_steps))]
 pub fn roster_of(text: &[u8]) -> Roster
     ensures { result ≡ roster_of text.now }
 {
@@ -47,6 +48,7 @@ fn empty_roster() -> Roster
 }
 
 // Behind the byte order mark that some editors write first.
+#[tactic(auto, using(crate::proofs::Marked::marked), unfolding(crate::specs::Roster::text_start, basis::specs::Choice::choose))]
 fn text_start(text: &[u8]) -> usize
     ensures value { result ≡ text_start text.now }
     ensures upper_bound { result ≤ length text.now }
@@ -59,6 +61,7 @@ fn text_start(text: &[u8]) -> usize
 }
 
 // A line ends before 0A, or where the text does.
+#[tactic(auto, using(crate::proofs::Lines::first_end))]
 fn line_end(text: &[u8], at: usize) -> usize
     requires { at ≤ length text.now }
     ensures { result ≡ line_end text.now at }
@@ -74,6 +77,7 @@ fn first_end(text: &[u8]) -> Option<usize>
     text.iter().position(|x| *x == b'\n')
 }
 
+#[tactic(auto, unfolding(crate::specs::Roster::line_next, basis::specs::Choice::choose))]
 fn line_next(text: &[u8], end: usize) -> usize
     ensures { result ≡ line_next text.now end }
 {
@@ -107,6 +111,7 @@ fn one_more(r: Roster, m: Module) -> Roster
     }
 }
 
+#[tactic(auto, unfolding(crate::specs::Roster::with_seat, basis::specs::Choice::choose))]
 fn with_seat(row: [Module; 16], i: usize, m: Module) -> [Module; 16]
     ensures { result ≡ with_seat row i m }
 {

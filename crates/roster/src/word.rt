@@ -8,6 +8,7 @@ pub enum Kind {
     Outlet,
 }
 
+#[tactic(auto, unfolding(crate::specs::Word::named))]
 pub fn named(word: &[u8]) -> Option<Kind>
     ensures { result ≡ named word.now }
 {
@@ -15,6 +16,7 @@ pub fn named(word: &[u8]) -> Option<Kind>
 }
 
 // In a file a pupil may write `Dimmer`: capital letters count as small ones.
+#[tactic(auto, unfolding(crate::specs::Word::named))]
 pub(crate) fn named_any(word: &[u8]) -> Option<Kind>
     ensures { result ≡ named (small_letters word.now) }
 {
@@ -25,6 +27,7 @@ pub(crate) fn named_any(word: &[u8]) -> Option<Kind>
 }
 
 // By whether it has the dimmer's name, and whether it has the outlet's.
+#[tactic(auto, unfolding(basis::specs::Choice::choose))]
 fn kind_by(is_dimmer: bool, is_outlet: bool) -> Option<Kind>
     ensures { result ≡ kind_by is_dimmer is_outlet }
 {

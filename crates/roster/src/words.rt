@@ -3,6 +3,7 @@ ghost use Rattle.std.specs.Prelude.{◌≡◌, ◌<◌, ◌≤◌, length, posit
 ghost use Rattle.roster.specs.Words.{is_blank, is_ink, bare_length, word_start, word_end};
 
 // What stands behind `#` is not read, and neither is the 0D that some editors write before 0A.
+#[tactic(auto, using(crate::proofs::Places::search_steps), unfolding(crate::specs::Words::bare_length))]
 pub(crate) fn bare_length(line: &[u8]) -> usize
     ensures { result ≡ bare_length line.now }
 {
@@ -15,6 +16,7 @@ pub(crate) fn bare_length(line: &[u8]) -> usize
 }
 
 // Where the next word begins, or the line's length where there is none.
+#[tactic(auto, using(crate::proofs::Parted::first_ink))]
 pub(crate) fn word_start(line: &[u8], at: usize) -> usize
     requires { at ≤ length line.now }
     ensures { result ≡ word_start line.now at }
@@ -30,6 +32,7 @@ fn first_ink(line: &[u8]) -> Option<usize>
     line.iter().position(|x| !is_blank(*x))
 }
 
+#[tactic(auto, using(crate::proofs::Parted::first_blank))]
 pub(crate) fn word_end(line: &[u8], start: usize) -> usize
     requires { start ≤ length line.now }
     ensures { result ≡ word_end line.now start }

@@ -24,6 +24,7 @@ pub struct Heeded {
     pub next: Seating,
 }
 
+#[tactic(auto, unfolding(crate::specs::Heed::heed_of))]
 pub fn heed(s: Seating, links: &mut [u8], message: &[u8], room: &mut [u8]) -> Heeded
     ensures { Heeds (heed_of s links.old message.now room.old)
         s result links.new room.new }

@@ -17,7 +17,7 @@ pub fn lay(room: &mut [u8], bytes: &[u8])
     }
 }
 
-// std's, with a clause by the definition; two edits are of it, so that it stays.
+// std's, with a clause by the definition. It stays, as two edits are of it, and `modem` calls it.
 pub fn min(a: usize, b: usize) -> usize
     ensures { result ≡ min a b }
 {

@@ -16,11 +16,7 @@ pub fn held_in(image: &[u8]) -> Option<Module>
     ensures { result ≡ held_in image.now }
 {
     let bytes = image.as_array::<LENGTH>()?;
-    if is_kind(bytes) {
-        Some(module_of(bytes))
-    } else {
-        None
-    }
+    is_kind(bytes).then(|| module_of(bytes))
 }
 
 // Whether it has the length of images, is of a kind that there is, and can be that kind's.
@@ -28,10 +24,7 @@ pub fn held_in(image: &[u8]) -> Option<Module>
 pub fn is_image(image: &[u8]) -> bool
     ensures { result ≡ is_image image.now }
 {
-    let Some(bytes) = image.as_array::<LENGTH>() else {
-        return false;
-    };
-    is_kind(bytes)
+    image.as_array::<LENGTH>().is_some_and(is_kind)
 }
 
 // Any byte can be a dimmer's; a socket is 00 or 01.

@@ -13,7 +13,7 @@ pub(crate) fn put_frames(out: &mut [u8], reply: &[u8]) -> usize
     ensures value { result ≡ length (framed reply.now) }
     ensures out_after { out.new ≡ laid (framed reply.now) out.old }
 {
-    // Stays a `while`: messages of two sizes stand in a reply, and chunks are of one.
+    // Stays a `while`: messages of two sizes stand in a reply, and chunks are of one; an iterator of its own would be longer than the loop.
     let mut at: usize = 0;
     let mut to: usize = 0;
     while at < reply.len() {

@@ -18,7 +18,7 @@ pub(crate) fn bytes_behind(line: &[u8], from: usize) -> Option<Bytes>
 {
     let mut bytes = Bytes::new();
     let mut at = word_start(line, from);
-    // stays a `while`: it goes from word to word, and std's `split` does not promise which words there are
+    // stays a `while`, from word to word: with std's `split` the proof does not close, as it does not promise which words there are
     while at < line.len() {
         let end = word_end(line, at);
         let byte = byte_of(&line[at..end])?;

@@ -30,12 +30,8 @@ pub fn line_of(line: &[u8]) -> Result<Option<Module>, BadLine>
         return Ok(None);
     }
     let end = word_end(bare, start);
-    let Some(kind) = named_any(&bare[start..end]) else {
-        return Err(BadLine::Kind);
-    };
-    let Some(bytes) = bytes_behind(bare, end) else {
-        return Err(BadLine::Bytes);
-    };
+    let kind = named_any(&bare[start..end]).ok_or(BadLine::Kind)?;
+    let bytes = bytes_behind(bare, end).ok_or(BadLine::Bytes)?;
     line_as(kind, &bytes)
 }
 

@@ -25,7 +25,7 @@ pub fn roster_of(text: &[u8]) -> Roster
     let mut r = empty_roster();
     let mut at = text_start(text);
     let mut number: usize = 0;
-    // stays a `while`: what std's `split` promises of its pieces is how many there are and how long, and not which
+    // stays a `while`: with std's `split` the proof does not close, as it promises how many pieces there are and how long, and not which
     while at < text.len() {
         let end = line_end(text, at);
         let line = line_of(&text[at..end]);

@@ -15,7 +15,8 @@ pub(crate) fn bare_length(line: &[u8]) -> usize
     line.len()
 }
 
-// Where the next word begins, or the line's length where there is none.
+// Where the next word begins, or the line's length where there is none. This, `word_end` and `line_end` stay three: one function over what
+// is sought would say in clauses, before all else, that it may be called of every byte and what it answers of each; here that is `position`.
 #[tactic(auto, using(crate::proofs::Parted::first_ink))]
 pub(crate) fn word_start(line: &[u8], at: usize) -> usize
     requires { at ≤ length line.now }

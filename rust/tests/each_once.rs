@@ -10,16 +10,11 @@ use std::path::{Path, PathBuf};
 const OPEN: [&str; 2] = ["desk-sit", "desk-teach"];
 
 /// Rows of what a trait gives of a type: where it is given, and by which words.
-const GIVEN: [(&str, &str, &str); 12] = [
+const GIVEN: [(&str, &str, &str); 11] = [
     (
         "wire-equals",
         "wire/src/address.rt",
         "PartialEq, Eq)]\npub struct Address",
-    ),
-    (
-        "wire-address",
-        "wire/src/address.rt",
-        "from_gives = { λ bytes address. address ≡ address_at bytes 0 }",
     ),
     (
         "wire-standard",

@@ -185,7 +185,6 @@ each_once =
       letters-new = λ _. begun _;
       letters-laid = λ _. by_value _;
       wire-equals = λ _ _. by_value _;
-      wire-address = λ _. by_value _;
       wire-standard = λ _. by_value _;
       wire-extended = λ _. by_value _;
       wire-group-command = λ _. by_value _;

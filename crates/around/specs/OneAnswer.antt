@@ -9,7 +9,7 @@ use Rattle.wire.specs.declared.command.Extended.{Extended}
 use Rattle.wire.specs.declared.command.GroupCommand.{GroupCommand}
 use Rattle.wire.specs.declared.kind.MessageKind.{MessageKind}
 use Rattle.wire.specs.declared.kind.Message.{Message}
-use Rattle.wire.specs.Bytes.{address_at, equals, is_extended}
+use Rattle.wire.specs.Bytes.{equals, is_extended}
 use Rattle.wire.specs.Commands.{standard_of, extended_of, group_command_of}
 use Rattle.wire.specs.Kinds.{heard_as}
 use Rattle.wire.specs.Reading.{heard_in, ReadPromise}
@@ -208,7 +208,6 @@ pub record EachOnce : Type 1 where
   pub letters-laid : (page : Page) → Only (λ (r : List ℕ). r ≡ laid_in page)
   -- what a trait of std's, or the trait of kinds, gives of a type
   pub wire-equals : (a b : Address) → Only (λ (r : Bool). r ≡ equals a b)
-  pub wire-address : (bytes : List ℕ) → Only (λ (r : Address). r ≡ address_at bytes 0)
   pub wire-standard : (command1 : ℕ) → Only (λ (r : Standard). r ≡ standard_of command1)
   pub wire-extended : (command1 : ℕ) → Only (λ (r : Extended). r ≡ extended_of command1)
   pub wire-group-command : (command1 : ℕ) → Only (λ (r : GroupCommand). r ≡ group_command_of command1)

@@ -7,12 +7,13 @@ use native.Mathlib.Omega.{arith}
 use lib.ListN.{length, take, drop, get_or, length-append, length-drop, get_or-append}
 use lib.Seq.{length-take-le, drop-drop, take-append_seam, drop-append_seam}
 use borrow.Author.Tests.{eqb-true}
-use borrow.Rule.Slice.PartMut.{mid_of}
+use borrow.Rule.Slice.PartMut.{put_mid, mid_of}
 use Rattle.basis.specs.Choice.{choose}
+use Rattle.basis.specs.Laid.{laid_if_fits}
 use Rattle.basis.proofs.Choice.{either}
-use Rattle.basis.proofs.Laid.{rest}
+use Rattle.basis.proofs.Laid.{rest, fits, behind}
 use Rattle.wire.specs.Bytes.{flags_of, is_extended, is_whole}
-use Rattle.modem.specs.Frames.{frame_of, message_size, framed_by, framed}
+use Rattle.modem.specs.Frames.{marker_of, frame_of, message_size, framed_by, framed}
 
 -- a message is nine bytes at least, unless fewer are left
 nine : (s : List ℕ) → 9 ≤ choose (is_extended s) 23 9
@@ -124,3 +125,8 @@ each_framed [] w = none 0 [] refl
 each_framed (m ∷ ms) w =
     framed_first m (flatten ms) (w 0 (omega arith))
     ∙ ap (λ (z : List ℕ). frame_of m ++ z) (each_framed ms (λ i h. w (suc i) (omega arith)))
+
+-- a frame is two bytes, and the message laid behind them
+pub in_frame : (out xs ys m : List ℕ) (x : ℕ) → 2 + length m ≤ length out → x ≡ marker_of m → xs ≡ laid_if_fits out (0x02 ∷ x ∷ [])
+    → ys ≡ laid_if_fits (mid_of 2 (length xs - 2) xs) m → put_mid 2 (length xs - 2) xs ys ≡ laid_if_fits out (frame_of m)
+in_frame out xs ys m x h e p q = behind out xs ys (0x02 ∷ marker_of m ∷ []) m h (rw e at p) q ∙ sym (fits out (frame_of m) (omega arith))

@@ -3,4 +3,5 @@ pub mod Placed
 pub mod Pieces
 pub mod Cut
 pub mod Framed
+pub mod Laying
 pub mod Turned

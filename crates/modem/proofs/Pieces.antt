@@ -6,12 +6,12 @@ use mathlib.Core.List.{List, ◌++◌}
 use native.Mathlib.Nat.{zero-add, add-zero}
 use native.Mathlib.Omega.{arith}
 use lib.Dec.{eqb, leb}
-use lib.ListN.{length, drop, get_or, length-append, length-drop, get_or-append}
+use Rattle.std.proofs.lemmas.Bool.Decides.{nat_tests}
+use lib.ListN.{length, drop, length-append, length-drop, get_or-append}
 use lib.Seq.{get_or-drop}
-use borrow.Author.Tests.{eq-eqb, ne_eqb, eqb-true, eqb-false, leb-true, leb-false}
+use borrow.Author.Tests.{ne_eqb, leb-true, leb-false}
 use Rattle.basis.specs.First.{first_from}
 use Rattle.basis.proofs.First.{At, Told, told, unique, skipped, shifted}
-use Rattle.basis.proofs.Tests.{clash, same}
 use Rattle.modem.specs.declared.arrived.Seen.{Seen}
 use Rattle.modem.specs.Arrived.{stops_at, frame_start, size_at, seen_at, seek_of}
 use Rattle.modem.proofs.Placed.{inside, whole, cut, found, waits}
@@ -33,11 +33,7 @@ keeps s t j h =
 
 -- nor a last byte that is not 02
 last : (s t : List ℕ) (j : ℕ) → j + 1 ≡ length s → stops_at s j ≡ false → stops_at (s ++ t) j ≡ false
-last s t j e p = go (eqb (get_or s j 0) 0x02) refl
-  where
-    go : (b : Bool) → eqb (get_or s j 0) 0x02 ≡ b → stops_at (s ++ t) j ≡ false
-    go true q = clash (rw (q, eq-eqb (j + 1) (length s) e)) p
-    go false q = rw (get_or-append s t 0 j (omega arith), q)
+last s t j e p = grind (arith, nat_tests, get_or-append {A = ℕ})
 
 -- no place before the first one stops
 quiet : (s : List ℕ) (j : ℕ) → j < frame_start s → stops_at s j ≡ false
@@ -58,11 +54,7 @@ stops s h = go (first_from (stops_at s) (length s) 0) (told (stops_at s) (length
     go k (Told.nowhere w) h = absurd (omega (arith, w.behind))
 
 still : (s t : List ℕ) (j : ℕ) → j < frame_start s → stops_at (s ++ t) j ≡ false
-still s t j h = go (eqb (j + 1) (length s)) refl
-  where
-    go : (b : Bool) → eqb (j + 1) (length s) ≡ b → stops_at (s ++ t) j ≡ false
-    go true q = last s t j (eqb-true (j + 1) (length s) q) (quiet s j h)
-    go false q = keeps s t j (omega (arith, eqb-false (j + 1) (length s) q, inside s)) ∙ quiet s j h
+still s t j h = grind (arith, nat_tests, last, keeps, quiet, inside)
 
 -- a frame that was found stays found
 pub stays : (s t : List ℕ) (k n : ℕ) → Seen.Whole k n ≡ seek_of s → Seen.Whole k n ≡ seek_of (s ++ t)
@@ -84,11 +76,7 @@ further : (k : ℕ) (x : List ℕ) → k ≤ length x → (j : ℕ) → stops_at
 further k x h j =
     let a : k + (j + 1) ≡ k + j + 1 = omega arith in
     let n : length (drop k x) ≡ length x - k = length-drop k x in
-    let there : eqb (k + j + 1) (length x) ≡ true → eqb (j + 1) (length (drop k x)) ≡ true =
-    λ e. eq-eqb (j + 1) (length (drop k x)) (omega (arith, eqb-true (k + j + 1) (length x) e)) in
-    let back : eqb (j + 1) (length (drop k x)) ≡ true → eqb (k + j + 1) (length x) ≡ true =
-    λ e. eq-eqb (k + j + 1) (length x) (omega (arith, eqb-true (j + 1) (length (drop k x)) e)) in
-    let b : eqb (k + j + 1) (length x) ≡ eqb (j + 1) (length (drop k x)) = same _ _ there back in
+    let b : eqb (k + j + 1) (length x) ≡ eqb (j + 1) (length (drop k x)) = grind (arith, nat_tests) in
     rw (get_or-drop k x j 0, get_or-drop k x (j + 1) 0, a, b)
 
 -- bytes that stop nowhere can be dropped: what is seen is what is seen behind them

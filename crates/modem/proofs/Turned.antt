@@ -8,18 +8,17 @@ use lib.ListN.{length, take, drop, length-append, length-take}
 use lib.Seq.{take-append_seam}
 use borrow.Author.Tests.{lt-ltb, le-ltb, ltb-true, ltb-false}
 use borrow.Rule.Slice.PartMut.{mid_of}
-use Rattle.std.specs.Prelude.{Option, None, Some}
+use Rattle.std.specs.Prelude.{None, Some}
 use Rattle.std.proofs.lemmas.Option.{none-some, same_Some}
 use Rattle.basis.specs.Choice.{choose}
 use Rattle.basis.specs.Laid.{laid}
 use Rattle.basis.proofs.Laid.{rest}
 use Rattle.seating.specs.declared.heed.Seating.{Seating}
-use Rattle.seating.specs.declared.heed.Heeded.{Heeded}
-use Rattle.seating.specs.Heed.{Heed, heed_of, Heeds}
+use Rattle.seating.specs.Heed.{Heed, heed_of}
 use Rattle.seating.proofs.Laws.{heed_replied}
 use Rattle.modem.specs.declared.serve.Served.{Served}
 use Rattle.modem.specs.Frames.{framed}
-use Rattle.modem.specs.Serve.{Turn, heeded_of, done_of, ample, turn_of, ServePromise}
+use Rattle.modem.specs.Serve.{heeded_of, done_of, ample, turn_of, ServePromise}
 
 -- the message behind the first two bytes; none where there are no more
 pub message : (s : List ℕ) → mid_of (min (length s) 2) (length s - min (length s) 2) s ≡ drop 2 s
@@ -31,52 +30,28 @@ message s = rest (min (length s) 2) s ∙ go s
     go (x ∷ y ∷ s) = let e : min (length (x ∷ y ∷ s)) 2 ≡ 2 = omega arith in rw e
 
 -- what a message leaves in the room is its reply
-module _ (s : Seating) (l message room : List ℕ) (r : Heeded) (links after : List ℕ) (p : Heeds (heed_of s l message room) s r links after) where
-  pub taken : take r.length after ≡ (heed_of s l message room).reply
-  taken = (λ i. take (p.sent i) (p.room_after i)) ∙ (heed_replied s l message room).start
+module _ (s : Seating) (l message room : List ℕ) where
+  abbrev heard : Heed
+  heard = heed_of s l message room
 
-  pub as_long : r.length ≡ length (take r.length after)
-  as_long = p.sent ∙ sym (ap length taken)
+  pub start : take (length heard.reply) heard.room ≡ heard.reply
+  start = (heed_replied s l message room).start
 
-  pub stands : r.length ≤ length after
-  stands = omega (arith, as_long, length-take r.length after)
+  pub as_long : length (take (length heard.reply) heard.room) ≡ length heard.reply
+  as_long = ap length start
 
-  pub fits : length (take r.length after) ≤ length room
-  fits = rw taken (heed_replied s l message room).fits
+  pub stands : length heard.reply ≤ length heard.room
+  stands = omega (arith, as_long, length-take (length heard.reply) heard.room)
 
-  pub told : r ≡ heeded_of s (heed_of s l message room)
-  told i = record { number = p.number i; length = p.sent i; read = p.read i; whom = p.whom i; next = p.next i }
-
+-- with room enough the message is heeded, and else nothing
 module _ (s : Seating) (l frame room out : List ℕ) where
-  -- the promise is kept by what the turn is
-  kept : (x : Turn) → turn_of s l frame room out ≡ x → {r : Option Served} {links room' out' : List ℕ}
-      → r ≡ x.served → links ≡ x.links → room' ≡ x.room → out' ≡ x.out
-      → ServePromise s l frame room out r links room' out'
-  kept x e is n o p =
-      record {
-        served = is ∙ sym (ap (λ (t : Turn). t.served) e);
-        links-after = n ∙ sym (ap (λ (t : Turn). t.links) e);
-        room_after = o ∙ sym (ap (λ (t : Turn). t.room) e);
-        out-after = p ∙ sym (ap (λ (t : Turn). t.out) e);
-      }
-
-  pub cramped : length out ≤ 2 * length room → ServePromise s l frame room out None l room out
+  pub heeded : 2 * length room < length out → turn_of s l frame room out ≡ done_of s out (heed_of s l (drop 2 frame) room)
   unfolding turn_of choose
-  cramped h = kept (record { served = None; links = l; room = room; out = out }) (rw (le-ltb (2 * length room) (length out) h)) refl refl refl refl
+  heeded h = rw (lt-ltb (2 * length room) (length out) h)
 
-  pub done : 2 * length room < length out → (r : Heeded) (links room' out' : List ℕ) (n : ℕ)
-      → Heeds (heed_of s l (drop 2 frame) room) s r links room'
-      → n ≡ length (framed (take r.length room'))
-      → out' ≡ laid (framed (take r.length room')) out
-      → ServePromise s l frame room out (Some (record { heeded = r; sent = n })) links room' out'
+  pub cramped : length out ≤ 2 * length room → turn_of s l frame room out ≡ record { served = None; links = l; room = room; out = out }
   unfolding turn_of choose
-  done h r links room' out' n p q o =
-      let t : Heed = heed_of s l (drop 2 frame) room in
-      let e : take r.length room' ≡ t.reply = taken s l (drop 2 frame) room r links room' p in
-      let a : r ≡ heeded_of s t = told s l (drop 2 frame) room r links room' p in
-      let k : n ≡ length (framed t.reply) = q ∙ ap (λ (z : List ℕ). length (framed z)) e in
-      kept (done_of s out t) (rw (lt-ltb (2 * length room) (length out) h)) (λ i. Some (record { heeded = a i; sent = k i })) p.memory p.room_after
-      (o ∙ ap (λ (z : List ℕ). laid (framed z) out) e)
+  cramped h = rw (le-ltb (2 * length room) (length out) h)
 
 -- a frame that was served: what its message leaves, with the reply in the room and its frames in `out`
 pub record Shows (s : Seating) (l frame room out : List ℕ) (r : Served) (links room' out' : List ℕ) : Type 0 where
@@ -124,3 +99,6 @@ module _ (s : Seating) (l frame room out : List ℕ) (links room' out' : List �
       go : (b : Bool) → ample room out ≡ b → (length out ≤ 2 * length room) × (links ≡ l)
       go true q = absurd (none-some _ (rw q at p.served))
       go false q = (ltb-false (2 * length room) (length out) q, rw q at p.links-after)
+
+-- step by step
+pub ruleset turn_steps = (message, start, as_long, stands, heeded, cramped)

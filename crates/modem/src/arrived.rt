@@ -11,6 +11,7 @@ pub enum Seen {
     Waiting(usize),
 }
 
+#[tactic(auto, using(crate::proofs::Placed::inside, crate::proofs::Placed::whole, crate::proofs::Placed::cut))]
 pub fn seek(s: &[u8]) -> Seen
     ensures { result ≡ seek_of s.now }
 {
@@ -23,6 +24,7 @@ pub fn seek(s: &[u8]) -> Seen
 }
 
 // Every byte before it starts no frame.
+#[tactic(auto, using(crate::proofs::Placed::place_steps), unfolding(crate::specs::Arrived::frame_start))]
 fn frame_start(s: &[u8]) -> usize
     ensures { result ≡ frame_start s.now }
 {
@@ -50,6 +52,7 @@ fn stops_at(s: &[u8], k: usize) -> bool
 }
 
 // A standard message has nine bytes and an extended one twenty-three; two stand before it.
+#[tactic(auto, unfolding(basis::specs::Choice::choose))]
 fn size_at(s: &[u8], k: usize) -> usize
     requires { k ≤ length s.now }
     ensures { result ≡ size_at s.now k }

@@ -7,6 +7,7 @@ use basis::min;
 use wire::read::is_extended;
 
 // The reply's messages in frames, one directly after the other; how many bytes they are.
+#[tactic(auto, using(crate::proofs::Laying::next_laid))]
 pub(crate) fn put_frames(out: &mut [u8], reply: &[u8]) -> usize
     requires { 2 * length reply.now < length out.old }
     ensures value { result ≡ length (framed reply.now) }
@@ -26,6 +27,7 @@ pub(crate) fn put_frames(out: &mut [u8], reply: &[u8]) -> usize
 }
 
 // The first message's size; what is left where that is less.
+#[tactic(auto, unfolding(basis::specs::Choice::choose))]
 fn message_size(reply: &[u8]) -> usize
     ensures { result ≡ message_size reply.now }
 {
@@ -38,6 +40,7 @@ fn message_size(reply: &[u8]) -> usize
 }
 
 // What follows 02.
+#[tactic(auto, unfolding(basis::specs::Choice::choose))]
 fn marker_of(message: &[u8]) -> u8
     ensures { result ≡ marker_of message.now }
 {
@@ -45,6 +48,7 @@ fn marker_of(message: &[u8]) -> u8
 }
 
 // One message in its frame.
+#[tactic(auto, using(crate::proofs::Framed::in_frame))]
 fn put_frame(out: &mut [u8], message: &[u8])
     requires { 2 + length message.now ≤ length out.old }
     ensures { out.new ≡ laid_if_fits out.old (frame_of message.now) }

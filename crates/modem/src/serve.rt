@@ -13,6 +13,7 @@ pub struct Served {
 }
 
 // None where the frames of a reply might not fit: nothing is altered.
+#[tactic(auto, using(crate::proofs::Turned::turn_steps))]
 pub fn serve(
     s: Seating,
     links: &mut [u8],

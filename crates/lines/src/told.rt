@@ -87,6 +87,7 @@ fn shown_for(s: &Seating, whom: Whom) -> Option<LoadShown>
     }
 }
 
+#[tactic(auto, unfolding(crate::specs::Shown::shown_at, basis::specs::Choice::choose))]
 fn shown_at(s: &Seating, i: usize) -> Option<LoadShown>
     ensures { result ≡ shown_at s.now i }
 {

@@ -1,58 +1,52 @@
 -- What the call to a class comes to, by its parts.
 use Prim.Native.Nat.{ℕ, ◌≤◌, ◌<◌}
-use mathlib.Core.Path.{◌≡◌, refl, sym, ◌∙◌}
+use native.Mathlib.Omega.{arith}
+use mathlib.Core.Path.{◌≡◌}
 use mathlib.Core.Bool.{true, false}
-use mathlib.Core.List.{List, [], ◌∷◌}
-use lib.ListN.{length}
+use Rattle.std.proofs.lemmas.Bool.Decides.{nat_tests}
 use borrow.Author.Tests.{le-leb}
+use Rattle.image.specs.Returned.{Returned}
+use Rattle.embed_class.specs.ClassCall.{class_reported, class_returned_of}
+use mathlib.Core.List.{List}
+use lib.ListN.{length}
 use Rattle.basis.specs.Choice.{choose}
-use Rattle.basis.specs.Laid.{laid, laid_if_fits}
 use Rattle.basis.proofs.Laid.{fits}
 use Rattle.row.specs.declared.outcome.ClassOutcome.{ClassOutcome}
-use Rattle.row.specs.declared.progress.ClassAnswer.{ClassAnswer}
-use Rattle.row.specs.Number.{class_number_of}
-use Rattle.class.specs.Class.{ClassStep, class_of}
+use Rattle.class.specs.Class.{refused_by, class_of}
 use Rattle.row.proofs.Fit.{crowded}
-use Rattle.embed_class.specs.Row.{is_row, row_of}
-use Rattle.image.specs.Returned.{Returns}
-use Rattle.embed_class.specs.ClassCall.{seated, class_returned_of}
-use Rattle.embed_class.specs.Serve.{RowComes}
+use Rattle.embed_class.specs.Row.{is_row, row_of, stored_row}
 use Rattle.embed_class.proofs.Images.{row_images, row_count}
 use Rattle.embed_class.proofs.Stored.{row_stays}
 
 module _ (images : List ℕ) (count : ℕ) (links message room report : List ℕ) where
-  abbrev step : ClassStep
-  step = class_of (row_of count images) links message room
+  abbrev outcome : Returned
+  outcome = class_returned_of images count links message room report
 
-  pub refused : seated images count report ≡ false → Returns (class_returned_of images count links message room report) 255 images links room report
+  -- nothing is altered
+  abbrev unfit : Returned
+  unfit = record { number = 255; image = images; links = links; room = room; report = report }
+
+  pub no_images : is_row count images ≡ false → outcome ≡ unfit
   unfolding class_returned_of choose
-  refused e = rw e (record { number = refl; image-after = refl; links-after = refl; room_after = refl; report-after = refl })
+  no_images e = rw e
 
-  module _ (row : is_row count images ≡ true) (h : 2 ≤ length report) where
-    is-seated : seated images count report ≡ true
-    is-seated = rw (row, le-leb 2 (length report) h)
+  pub no_report : length report < 2 → outcome ≡ unfit
+  unfolding class_returned_of choose
+  no_report h = grind (arith, nat_tests)
 
-    -- more than sixteen
-    pub crowd : 16 < count → (report' : List ℕ) (r : ℕ) → report' ≡ laid_if_fits report (0 ∷ 0 ∷ []) → r ≡ class_number_of ClassOutcome.Unfit
-        → Returns (class_returned_of images count links message room report) r images links room report'
-    unfolding class_returned_of class_of choose
-    crowd many report' r told q =
-        let unfit = crowded (length (row_of count images)) (length links) (rw (row_count count images) many) in
-        let stays = row_stays count images (row_images count images row) in
-        rw (is-seated, unfit)
-        (record { number = q; image-after = sym stays; links-after = refl; room_after = refl; report-after = told ∙ fits report (0 ∷ 0 ∷ []) h })
-
-    -- a row of sixteen or fewer
-    pub served : (answer : ClassAnswer) (images' links' room' report' : List ℕ) (r : ℕ) → RowComes images step answer images' links' room'
-        → report' ≡ laid_if_fits report (answer.length ∷ answer.read ∷ []) → r ≡ class_number_of answer.outcome
-        → Returns (class_returned_of images count links message room report) r images' links' room' report'
+  module _ (row : is_row count images ≡ true) where
+    pub fitting : 2 ≤ length report → outcome ≡ class_reported images report (class_of (row_of count images) links message room)
     unfolding class_returned_of choose
-    served answer images' links' room' report' r p told q =
-        rw is-seated
-        (record {
-          number = q ∙ p.comes.number;
-          image-after = p.images-after;
-          links-after = p.comes.memory;
-          room_after = p.comes.room_after;
-          report-after = told ∙ fits report (answer.length ∷ answer.read ∷ []) h ∙ (λ j. laid (p.comes.sent j ∷ p.comes.read j ∷ []) report);
-        })
+    fitting h = rw (row, le-leb 2 (length report) h)
+
+    -- more than sixteen are refused
+    pub crowd : 16 < count → class_of (row_of count images) links message room ≡ refused_by ClassOutcome.Unfit (row_of count images) links room
+    unfolding class_of choose
+    crowd many = rw (crowded (length (row_of count images)) (length links) (rw (row_count count images) many))
+
+    -- and what the images hold leaves them as they stand
+    pub stays : stored_row (row_of count images) images ≡ images
+    stays = row_stays count images (row_images count images row)
+
+-- step by step
+pub ruleset call_steps = (no_images, no_report, fitting, crowd, stays, fits)

@@ -1,9 +1,8 @@
 -- Images one behind the other, and the modules that they hold.
-use Prim.Native.Nat.{ℕ, zero, suc, ◌+◌, ◌-◌, ◌*◌, ◌<◌}
+use Prim.Native.Nat.{ℕ, zero, suc, ◌+◌, ◌*◌}
 use mathlib.Core.Path.{◌≡◌, refl, sym, ◌∙◌, ap}
 use mathlib.Core.Bool.{Bool, true, false, ◌&&◌}
 use mathlib.Core.List.{List}
-use native.Mathlib.Nat.{not-suc-le-zero}
 use native.Mathlib.Omega.{arith}
 use Rattle.std.specs.Simd.{first_chunks}
 use Rattle.std.specs.List.{list_all}
@@ -11,12 +10,10 @@ use lib.Dec.{eqb}
 use lib.ListN.{length, take, drop}
 use lib.Seq.{drop-drop}
 use borrow.Author.Tests.{eqb-true, eq-eqb, ne_eqb}
-use borrow.Rule.Slice.PartMut.{mid_of}
 use Rattle.basis.proofs.Tests.{both}
-use Rattle.class.proofs.Shared.{between}
 use Rattle.image.specs.Places.{LENGTH}
 use Rattle.image.specs.Image.{is_image}
-use Rattle.embed_class.specs.Row.{image_in, are_images, is_row, row_of}
+use Rattle.embed_class.specs.Row.{are_images, is_row, row_of}
 
 -- what a row is
 pub row_length : (k : ℕ) (s : List ℕ) → is_row k s ≡ true → length s ≡ k * LENGTH
@@ -40,10 +37,6 @@ pub all_chunks : (k : ℕ) (s : List ℕ) → list_all (λ image. is_image image
 unfolding are_images
 all_chunks zero s = refl
 all_chunks (suc k) s = ap (λ (rest : Bool). is_image (take LENGTH s) && rest) (all_chunks k (drop LENGTH s))
-
--- what is lent of the bytes for seat k is image k
-pub lent : (k : ℕ) (s : List ℕ) → mid_of (k * LENGTH) (k * LENGTH + LENGTH - k * LENGTH) s ≡ image_in k s
-lent k s = ap (λ (n : ℕ). mid_of (k * LENGTH) n s) (between (k * LENGTH) LENGTH)
 
 -- it holds as many modules as it has images
 pub row_count : (k : ℕ) (s : List ℕ) → length (row_of k s) ≡ k

@@ -2,7 +2,6 @@
 pub mod Images
 pub mod Stored
 pub mod Named
-pub mod Seated
 pub mod Standing
 pub mod Started
 pub mod ClassServed

@@ -25,7 +25,7 @@ module _ (count : ℕ) (s : List ℕ) (n : length s ≡ count * LENGTH) (each : 
   whole : each ≡ first_chunks LENGTH count s
   whole = e ∙ ap (λ (k : ℕ). first_chunks LENGTH (k / LENGTH) s) n ∙ ap (λ (k : ℕ). first_chunks LENGTH k s) (mul-div_left count (lit< tt))
 
-  pub as_many : length each ≡ count
+  as_many : length each ≡ count
   as_many = ap length whole ∙ many_chunks count s
 
   pub named : (names : List Address) → take (length each) names ≡ map address_in each → take count names ≡ names_of (row_of count s)

@@ -1,5 +1,5 @@
 -- Where a message to a row of images stands: whose turn it is, and what is said so far.
-use Prim.Native.Nat.{ℕ, ◌+◌, ◌≤◌, ◌<◌}
+use Prim.Native.Nat.{ℕ, ◌+◌, ◌*◌, ◌≤◌, ◌<◌}
 use mathlib.Core.Path.{◌≡◌, refl, sym, ◌∙◌, ap, subst}
 use mathlib.Core.Bool.{true, false}
 use mathlib.Core.List.{List}
@@ -11,7 +11,6 @@ use Rattle.module.specs.declared.state.Module.{Module}
 use Rattle.module.specs.Module.{kind_of}
 use Rattle.device.specs.Step.{Step, step_by}
 use Rattle.device.proofs.Lasting.{identity_by, kind_by}
-use Rattle.device.proofs.Counted.{most_read}
 use Rattle.device.specs.declared.step.Answer.{Answer}
 use Rattle.row.specs.Answer.{of_seat, and_seat}
 use Rattle.row.specs.declared.progress.Round.{Round}
@@ -56,7 +55,7 @@ module _ (target : ClassStep) (heard : Message) (bytes count : ℕ) (t : Progres
     pub serves : seat < count → Serves t.round
 
   -- no turn is left
-  pub stands_over : (images links room : List ℕ) (seat : ℕ) (answer : ClassAnswer) → Standing images links room seat answer → count ≤ seat
+  stands_over : (images links room : List ℕ) (seat : ℕ) (answer : ClassAnswer) → Standing images links room seat answer → count ≤ seat
       → RowComes before target answer images links room
   stands_over images links room seat answer u past =
       let c = over target heard bytes u.left u.row (at seat answer) links room u.runs (omega (arith, u.many, past)) in
@@ -81,7 +80,7 @@ module _ (target : ClassStep) (heard : Message) (bytes count : ℕ) (t : Progres
     onward : Next target heard bytes u.left u.row (at seat answer) links room
     onward = next target heard bytes u.left u.row (at seat answer) links room u.runs there
 
-    pub ready : Ready (at seat answer) bytes
+    ready : Ready (at seat answer) bytes
     ready = onward.ready
 
     abbrev m : Module
@@ -100,7 +99,7 @@ module _ (target : ClassStep) (heard : Message) (bytes count : ℕ) (t : Progres
     its-image : image_in seat images ≡ stored_in x m
     its-image = ap (image_in seat) u.held ∙ image_at u.row before seat u.fit there
 
-    pub is_one : is_image (image_in seat images) ≡ true
+    is_one : is_image (image_in seat images) ≡ true
     is_one = ap is_image its-image ∙ (stays_own x m mine).is_one
 
     -- it holds the module of the seat
@@ -147,10 +146,6 @@ module _ (target : ClassStep) (heard : Message) (bytes count : ℕ) (t : Progres
       read : own.read ≡ y.read
       read = s.read ∙ ap (λ (x : Step). x.read) same_step
 
-      -- it reads no more records than a share has
-      pub few : own.read ≤ 256
-      few = subst (λ (n : ℕ). n ≤ 256) (sym s.read) (most_read (module_of (image_in seat images)) (share_at t.task.share seat links) heard room)
-
       -- wherever the turn leads, that is where the row stands
       abbrev Gone : Progress → Type 0
       Gone z = Runs target heard bytes onward.left (set u.row seat y.next) z (with_share t.task.share seat y.links links) y.room
@@ -173,12 +168,41 @@ module _ (target : ClassStep) (heard : Message) (bytes count : ℕ) (t : Progres
             serves = λ h. u.serves inside;
           }
 
-      pub to-next : is_for_all t.round ≡ true → Standing images' links' room' (seat + 1) (with_seat answer own)
+      to-next : is_for_all t.round ≡ true → Standing images' links' room' (seat + 1) (with_seat answer own)
       to-next a =
           leads (offered (at seat answer) (answer_of y)).progress (turned Round.All (for_all t.round a)) (seat + 1) (with_seat answer own)
           (λ j. at (seat + 1) (and_seat answer (sym outcome j) (answer.read + sym read j)))
 
-      pub to_end : is_for_all t.round ≡ false → Standing images' links' room' count (of_seat seat own.outcome own.length own.read)
+      to_end : is_for_all t.round ≡ false → Standing images' links' room' count (of_seat seat own.outcome own.length own.read)
       to_end a =
           leads (served (at seat answer) (answer_of y)).progress (turned Round.One (for_one t.round (u.serves inside) a)) count (of_seat seat own.outcome own.length own.read)
           (λ j. at (u.seats j) (of_seat seat (sym outcome j) (sym sent j) (sym read j)))
+
+  -- it stands so, and this is then to come
+  pub record Awaits (images links room : List ℕ) (seat : ℕ) (answer : ClassAnswer) : Type 0 where
+    pub stands : Standing images links room seat answer
+    pub over : count ≤ seat → RowComes before target answer images links room
+    pub own : seat < count → seat * t.task.share + t.task.share ≤ bytes
+    pub counted : seat < count → answer.read ≤ 4096
+    pub is_one : seat < count → is_image (image_in seat images) ≡ true
+
+  module _ (images links room : List ℕ) (seat : ℕ) (answer : ClassAnswer) where
+    pub awaits : Standing images links room seat answer → Awaits images links room seat answer
+    awaits u =
+        record {
+          stands = u;
+          over = stands_over images links room seat answer u;
+          own = λ h. (ready images links room seat answer u h).own;
+          counted = λ h. (ready images links room seat answer u h).counted;
+          is_one = λ h. is_one images links room seat answer u h;
+        }
+
+  module _ (images links room : List ℕ) (seat : ℕ) (answer : ClassAnswer) where
+    module _ (p : Awaits images links room seat answer) (inside : seat < count) (own : Answer) (answer' : ClassAnswer) (images' links' room' : List ℕ) where
+      pub next_seat : is_for_all t.round ≡ true → answer' ≡ and_seat answer own.outcome (answer.read + own.read)
+          → SeatComes t.task.share seat images links heard room own images' links' room' → Awaits images' links' room' (seat + 1) answer'
+      next_seat a e s = rw e (awaits images' links' room' (seat + 1) _ (to-next images links room seat answer p.stands inside own images' links' room' s a))
+
+      pub one_seat : is_for_all t.round ≡ false → answer' ≡ of_seat seat own.outcome own.length own.read
+          → SeatComes t.task.share seat images links heard room own images' links' room' → RowComes before target answer' images' links' room'
+      one_seat a e s = rw e (stands_over images' links' room' count _ (to_end images links room seat answer p.stands inside own images' links' room' s a) (omega arith))

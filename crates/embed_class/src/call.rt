@@ -10,6 +10,7 @@ use row::outcome::ClassOutcome;
 // The number of images or a report that do not fit: a number, as all that this call gives, since C reads it.
 const UNFIT: u64 = 255;
 
+#[tactic(auto, using(crate::proofs::ClassServed::call_steps))]
 pub fn dreelish_class_step(
     images: &mut [u8],
     count: usize,

@@ -16,6 +16,7 @@ use row::settle::noticed;
 use wire::kind::Message;
 use wire::read::hear;
 
+#[tactic(auto, using(crate::proofs::Started::row_steps))]
 pub(crate) fn serve_row(
     images: &mut [u8],
     count: usize,
@@ -60,6 +61,7 @@ fn is_for_all(round: Round) -> bool
 }
 
 // One seat, with its own image and its own share.
+#[tactic(auto, using(class::proofs::Shared::between), unfolding(image::specs::Image::held_in, basis::specs::Choice::choose))]
 fn serve_seat(
     images: &mut [u8],
     seat: usize,

@@ -9,6 +9,7 @@ use image::places::{HIGH, LENGTH, LOW, MIDDLE};
 use wire::address::Address;
 
 // Whether these bytes are so many images, and nothing else.
+#[tactic(auto, using(crate::proofs::Images::no_row, crate::proofs::Images::row_by_images, crate::proofs::Images::all_chunks))]
 pub(crate) fn is_row(images: &[u8], count: usize) -> bool
     ensures { result ≡ is_row count images.now }
 {

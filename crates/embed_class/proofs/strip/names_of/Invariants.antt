@@ -1,5 +1,4 @@
 -- The addresses noted so far are those of the images passed.
-use Prim.Native.Nat.{◌≤◌}
 use mathlib.Core.Path.{◌≡◌}
 use mathlib.Core.List.{map}
 use lib.ListN.{length, take}

@@ -1,7 +1,7 @@
 -- Where a message to a row of images stands before the first turn.
-use Prim.Native.Nat.{ℕ, zero, suc, ◌+◌, ◌*◌, ◌/◌, ◌≤◌, ◌<◌}
+use Prim.Native.Nat.{ℕ, zero, suc, ◌/◌, ◌<◌}
 use mathlib.Core.Path.{◌≡◌, refl, sym, ◌∙◌, ap, subst}
-use mathlib.Core.Bool.{true, false}
+use mathlib.Core.Bool.{true}
 use mathlib.Core.List.{List, [], ◌∷◌, map}
 use native.Mathlib.Omega.{arith}
 use lib.ListN.{length, get_or, take}
@@ -19,18 +19,13 @@ use Rattle.row.specs.Round.{name_in, noticed}
 use Rattle.class.proofs.Runs.{Runs}
 use Rattle.class.proofs.Rounds.{notices}
 use Rattle.row.proofs.Noticed.{due}
-use Rattle.embed_class.specs.Row.{image_in, address_in, is_row, row_of, names_of}
-use Rattle.embed_class.specs.Serve.{is_for_all, SeatComes, RowComes}
+use Rattle.embed_class.specs.Row.{address_in, is_row, row_of, names_of}
 use Rattle.image.specs.Places.{LENGTH}
-use Rattle.image.specs.Image.{is_image}
-use Rattle.device.specs.declared.step.Answer.{Answer}
 use Rattle.device.proofs.Counted.{most_read}
-use Rattle.row.specs.declared.progress.ClassAnswer.{ClassAnswer}
-use Rattle.row.specs.Answer.{of_seat}
 use Rattle.embed_class.proofs.Images.{row_length, row_images, row_count}
 use Rattle.embed_class.proofs.Named.{named}
 use Rattle.embed_class.proofs.Stored.{row_fits, row_stays}
-use Rattle.embed_class.proofs.Standing.{Standing, Awaits, awaits, one_seat}
+use Rattle.embed_class.proofs.Standing.{Standing, Awaits, awaits}
 
 named_at : (row : List Module) (j : ℕ) → get_or (names_of row) j no_name ≡ name_at row j
 unfolding names_of
@@ -89,18 +84,5 @@ module _ (images : List ℕ) (count : ℕ) (l s room : List ℕ) (heard : Messag
     begins =
         awaits _ _ _ _ _ _ _ _ _ _ _ (starts names count images l s room row_is (named count images (row_length count images row_is) each front names noted) heard t h e)
 
-    pub first_over : count ≤ t.seat → RowComes images all t.answer images l room
-    first_over = begins.over
-
-    pub first_own : t.seat < count → t.seat * t.task.share + t.task.share ≤ length l
-    first_own = begins.own
-
-    pub first_image : t.seat < count → is_image (image_in t.seat images) ≡ true
-    first_image = begins.is_one
-
-    pub first_alone : t.seat < count → is_for_all t.round ≡ false → (own : Answer) (answer : ClassAnswer) (images' links' room' : List ℕ)
-        → answer ≡ of_seat t.seat own.outcome own.length own.read → SeatComes t.task.share t.seat images l heard room own images' links' room' → RowComes images all answer images' links' room'
-    first_alone inside a own answer images' links' room' q c = one_seat _ _ _ _ _ _ _ _ _ _ _ begins inside own answer images' links' room' a q c
-
 -- turn by turn
-pub ruleset row_steps = (row_length, first_own, first_image, most_read)
+pub ruleset row_steps = (row_length, most_read)

@@ -35,17 +35,13 @@ pub(crate) fn serve_row(
     let heard = hear(message);
     let t = noticed(names, count, links.len(), heard);
     let mut answer = t.answer;
-    if !is_for_all(t.round) {
-        if count <= t.seat {
-            return answer;
-        }
-        let own = serve_seat(images, t.seat, t.task.share, links, heard, room);
-        return ClassAnswer::of_seat(t.seat, own.outcome, own.length, own.read);
-    }
+    // One call for both rounds, so that a compiler serves each seat in place.
     for seat in t.seat..count {
         let own = serve_seat(images, seat, t.task.share, links, heard, room);
-        let outcome = own.outcome;
-        answer = answer.and_seat(outcome, answer.read + own.read);
+        if !is_for_all(t.round) {
+            return ClassAnswer::of_seat(seat, own.outcome, own.length, own.read);
+        }
+        answer = answer.and_seat(own.outcome, answer.read + own.read);
     }
     answer
 }

@@ -5,7 +5,7 @@ ghost use Rattle.std.specs.Prelude.{◌≡◌, min};
 ghost use Rattle.basis.specs.Laid.{laid_if_fits};
 
 // The bytes over the start of the room; what stands behind them stays. Where they do not fit, nothing is written. A loop: with
-// `copy_from_slice` the reply of a whole database of 256 records takes 20,217 instructions in place of 13,810.
+// `copy_from_slice` the reply of a whole database takes half as many instructions again.
 pub fn lay(room: &mut [u8], bytes: &[u8])
     ensures { room.new ≡ laid_if_fits room.old bytes.now }
 {

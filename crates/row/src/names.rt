@@ -14,7 +14,7 @@ pub(crate) fn seat_named(names: &[Address], a: Address) -> Option<usize>
 }
 
 // The low byte is asked first: it tells most addresses apart, and `==` alone begins with the high one. With that a message to the last of
-// sixteen seats took 1,465 instructions and so 1,404, when the form before took 1,387.
+// sixteen seats takes 1,436 instructions, and 1,319 so, where the form before took 1,366.
 fn is_same(a: Address, b: Address) -> bool
     ensures { result ≡ equals a b }
 {

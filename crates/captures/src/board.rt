@@ -15,6 +15,7 @@ const UNUSED: u8 = 0xa5;
 // A module, byte by byte.
 pub(crate) type Image = [u8; places::LENGTH];
 
+// Word for word the `Kind` of `roster`, on which this program does not stand: it has no need of the words and rows there.
 #[derive(Clone, Copy)]
 pub(crate) enum Kind {
     Dimmer,
@@ -81,6 +82,7 @@ pub(crate) struct Board {
     // How much of the room is lent to a message. The rest counts too, since it has to stay as it is, and where this is more than there
     // is, nothing is heard: so it is no length of the room.
     lent: usize,
+    // Numbers, and no names for them: `dreelish_step`, which C calls too, gives a message's result and its report so.
     pub result: u64,
     pub report: [u64; 2],
 }

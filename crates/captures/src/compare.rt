@@ -60,6 +60,7 @@ fn compare_module<'a>(board: &'a Board, line: &[u8]) -> Result<(), Mismatch<'a>>
 }
 
 fn compare_number(line: &[u8], came: u64) -> Result<(), Mismatch<'static>> {
+    // `as`: std has no `From` between them, and `try_from` has an error that cannot arise.
     if number_in(line) as u64 == came {
         return Ok(());
     }
@@ -75,12 +76,8 @@ fn compare_links<'a>(board: &'a Board, line: &[u8]) -> Result<(), Mismatch<'a>> 
 
 // The reply, and the room behind it as it was.
 fn compare_reply<'a>(room: &'a [u8], length: u64, line: &[u8]) -> Result<(), Mismatch<'a>> {
-    let Ok(length) = usize::try_from(length) else {
-        return Err(Mismatch::Nothing);
-    };
-    let Some((reply, behind)) = room.split_at_checked(length) else {
-        return Err(Mismatch::Nothing);
-    };
+    let length = usize::try_from(length).map_err(|_| Mismatch::Nothing)?;
+    let (reply, behind) = room.split_at_checked(length).ok_or(Mismatch::Nothing)?;
     if behind.iter().any(|byte| *byte != BLANK) {
         return Err(Mismatch::Nothing);
     }

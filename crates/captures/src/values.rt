@@ -53,10 +53,7 @@ pub(crate) fn with_named(image: &Image, line: &[u8]) -> Option<Image> {
             }
         };
     }
-    match name {
-        None => Some(image),
-        Some(_) => None,
-    }
+    name.is_none().then_some(image)
 }
 
 fn set_value(image: &mut Image, name: &[u8], value: &[u8]) -> Option<()> {

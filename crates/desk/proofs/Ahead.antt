@@ -52,3 +52,11 @@ module _ (n : ℕ) (s : List ℕ) (inside : n ≤ length s) where
           let place : k ≡ n + i = cc in
           let w = waits (drop n s) i (sym q) in
           record { at = i; place = place; seen = q; lies = omega (arith, w.lies, length-drop n s) }
+
+-- it begins behind what is done with, and ends within the bytes
+pub record Lies (n : ℕ) (s : List ℕ) (k size : ℕ) : Type 0 where
+  pub least : n < k + size
+  pub ends : k + size ≤ length s
+
+pub lies : (n : ℕ) (s : List ℕ) (k size : ℕ) → Seen.Whole k size ≡ seek_behind n s → n ≤ length s → Lies n s k size
+lies n s k size e inside = let f = next n s inside k size e in record { least = omega (arith, f.place, f.least); ends = f.lies }

@@ -1,6 +1,7 @@
 -- What is held: what is kept moves to the start, and more is read behind it.
-use Rattle.std.proofs.Common.{◌≡◌, ℕ, ◌-◌, ◌<◌, ◌≤◌, true, List, [], ◌++◌, length, take, drop, sym, refl, ap, ◌∙◌, append_assoc, append-nil, arith, length-append, length-drop, take-append-drop, length-take-le, take-take, take_at}
+use Rattle.std.proofs.Common.{◌≡◌, ℕ, ◌-◌, ◌<◌, ◌≤◌, false, not, List, [], ◌++◌, length, take, drop, sym, refl, ap, ◌∙◌, append_assoc, append-nil, arith, length-append, length-drop, take-append-drop, length-take-le, take-take, take_at}
 use lib.Seq.{take-append-le}
+use borrow.Author.Tests.{not-false}
 use Rattle.basis.specs.Laid.{laid}
 use Rattle.basis.proofs.Tests.{clash}
 use Rattle.modem.specs.Stream.{cut_by}
@@ -23,15 +24,15 @@ moved before l room s links held p a e as_long =
     record { inside = omega arith; passed = rw left a.passed; all = λ h. rw left (a.all h) }
 
 -- some bytes more behind those that were there, and what comes of them all
-pub read_on : (before : Progress) (l room held : List ℕ) (p : Progress) (links now part rest : List ℕ) (k : ℕ) → before.count ≤ k
-    → take before.count now ≡ take before.count held
+pub read_on : (before : Progress) (l room held : List ℕ) (p : Progress) (links now part : List ℕ) (k : ℕ)
     → HeldPromise before.desk l room (take k now) p links part
-    → ReadPromise before l room held p links (part ++ rest)
-read_on before l room held p links now part rest k h e a =
+    → take before.count now ≡ take before.count held → before.count < k
+    → ReadPromise before l room held p links (part ++ drop k now)
+read_on before l room held p links now part k a e h =
     let n : ℕ = before.count in
     let seam : take n held ++ drop n (take k now) ≡ take k now =
-    ap (λ (z : List ℕ). z ++ drop n (take k now)) (sym e ∙ sym (take-take n k now h)) ∙ take-append-drop n (take k now) in
-    let front : take p.count (part ++ rest) ≡ take p.count part = take-append-le p.count part rest a.inside in
+    ap (λ (z : List ℕ). z ++ drop n (take k now)) (sym e ∙ sym (take-take n k now (omega arith))) ∙ take-append-drop n (take k now) in
+    let front : take p.count (part ++ drop k now) ≡ take p.count part = take-append-le p.count part (drop k now) a.inside in
     record {
       read = drop n (take k now);
       served = record { inside = simp length-append (omega (arith, a.inside)); passed = rw (seam, front) a.passed; all = λ o. rw front (a.all o) };
@@ -59,21 +60,21 @@ pub at_first : (desk : Desk) (l room held : List ℕ) → ReadPromise (record { 
 unfolding cut_by
 at_first desk l room held = record { read = []; served = record { inside = omega arith; passed = still desk desk l room [] refl refl; all = λ _. refl } }
 
--- one read after another
-pub go_on_lem : (before p p' : Progress) (l links links' room room' held now now' : List ℕ) → length room' ≡ length room → p.desk.is_open ≡ true
-    → ReadPromise before l room held p links now → ReadPromise p links room' now p' links' now'
+-- one read after another, as long as the desk is open
+pub go_on_lem : (before p p' : Progress) (l links links' room room' held now now' : List ℕ) → ReadPromise before l room held p links now
+    → ReadPromise p links room' now p' links' now' → length room' ≡ length room → not p.desk.is_open ≡ false
     → ReadPromise before l room held p' links' now'
-go_on_lem before p p' l links links' room room' held now now' e o a b =
+go_on_lem before p p' l links links' room room' held now now' a b e o =
     let s : List ℕ = take before.count held ++ a.read in
     let left : List ℕ = take p.count now in
     let both : s ++ b.read ≡ take before.count held ++ (a.read ++ b.read) = append_assoc (take before.count held) a.read b.read in
-    let first = more before.desk p.desk l room s links left b.read a.served.passed (a.served.all o) in
+    let first = more before.desk p.desk l room s links left b.read a.served.passed (a.served.all (not-false _ o)) in
     let passed =
     then before.desk p.desk p'.desk l links links' room room' e (s ++ b.read) (left ++ b.read) (take p'.count now')
     first b.served.passed in
     record { read = a.read ++ b.read; served = record { inside = b.served.inside; passed = rw both at passed; all = b.served.all } }
 
 -- an open desk has less than a frame in hand
-pub in_hand : (before p : Progress) (l room held links now : List ℕ) → ReadPromise before l room held p links now → p.desk.is_open ≡ true → p.count < 25
-in_hand before p l room held links now a o =
-    omega (arith, less (take p.count now) (a.served.all o), length-take-le p.count now a.served.inside)
+pub in_hand : {before p : Progress} {l room held links now : List ℕ} → ReadPromise before l room held p links now → not p.desk.is_open ≡ false → p.count < 25
+in_hand {before} {p} {l} {room} {held} {links} {now} a o =
+    omega (arith, less (take p.count now) (a.served.all (not-false _ o)), length-take-le p.count now a.served.inside)

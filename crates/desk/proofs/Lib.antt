@@ -2,3 +2,4 @@
 pub mod Ahead
 pub mod Passed
 pub mod Held
+pub mod Served

@@ -1,5 +1,5 @@
 -- How a desk comes along: no frame, one frame, and one stretch after another.
-use Rattle.std.proofs.Common.{◌≡◌, ℕ, ◌+◌, ◌<◌, List, [], ◌∷◌, ◌++◌, length, take, drop, sym, refl, ap, ◌∙◌, append_assoc, append-nil, arith, drop-drop}
+use Rattle.std.proofs.Common.{◌≡◌, ℕ, ◌+◌, ◌<◌, ◌≤◌, List, [], ◌∷◌, ◌++◌, length, take, drop, sym, refl, ap, ◌∙◌, append_assoc, append-nil, arith, drop-drop}
 use mathlib.Core.List.{map-append}
 use Rattle.seating.specs.Heed.{Heed}
 use Rattle.seating.specs.Sat.{Sat, Told, heed_in, sat_by, heed_all, sat_after, told_by}
@@ -13,7 +13,8 @@ use Rattle.desk.specs.Desk.{sat_at, Answered}
 use Rattle.text.specs.declared.tally.Tally.{Tally}
 use Rattle.desk.specs.Tally.{counted_as, counted, counted_all}
 use Rattle.desk.specs.Passed.{Passed, Unfinished, ArrivedPromise}
-use Rattle.desk.proofs.Ahead.{Next, Rest}
+use Rattle.desk.specs.Ahead.{seek_behind}
+use Rattle.desk.proofs.Ahead.{next, none}
 
 -- counted in two parts
 count_parts : (tally : Tally) (first second : List Heed) → counted_all tally (first ++ second) ≡ counted_all (counted_all tally first) second
@@ -131,9 +132,10 @@ skip before after l room s links left p k e =
     }
 
 -- the first bytes of what has arrived are done with, and the next ones are looked at
-module _ (before desk : Desk) (l room s links : List ℕ) (used : ℕ) (p : Passed before l room s desk links (drop used s)) where
-  pub no_more : (k : ℕ) → Rest used s k → ArrivedPromise before l room s (record { desk = desk; count = k }) links
-  no_more k r =
+module _ {before desk : Desk} {l room s links : List ℕ} {used : ℕ} (p : Passed before l room s desk links (drop used s)) (inside : used ≤ length s) where
+  pub no_more : {k : ℕ} → Seen.Waiting k ≡ seek_behind used s → ArrivedPromise before l room s (record { desk = desk; count = k }) links
+  no_more {k} found =
+      let r = none used s inside k found in
       let e : drop r.at (drop used s) ≡ drop k s = drop-drop r.at used s ∙ ap (λ (z : ℕ). drop z s) (sym r.place) in
       record {
         inside = r.lies;
@@ -141,10 +143,11 @@ module _ (before desk : Desk) (l room s links : List ℕ) (used : ℕ) (p : Pass
         all = λ _. rw e at (unfinished (drop used s) r.at r.seen);
       }
 
-  pub one_more : (after : Desk) (room' links' : List ℕ) → length room' ≡ length room → (k n : ℕ) → Next used s k n
+  pub one_more : {after : Desk} (room' : List ℕ) {links' : List ℕ} {k n : ℕ} → length room' ≡ length room → Seen.Whole k n ≡ seek_behind used s
       → Answered desk links (heed_in (sat_at desk links) (call_in room' (take n (drop k s)))) after links'
       → Passed before l room s after links' (drop (k + n) s)
-  one_more after room' links' e k n f a =
+  one_more {after} room' {links'} {k} {n} e found a =
+      let f = next used s inside k n found in
       let at-frame : drop f.at (drop used s) ≡ drop k s = drop-drop f.at used s ∙ ap (λ (z : ℕ). drop z s) (sym f.place) in
       let far : used + (f.at + n) ≡ k + n = omega (arith, f.place) in
       let behind : drop (f.at + n) (drop used s) ≡ drop (k + n) s = drop-drop (f.at + n) used s ∙ ap (λ (z : ℕ). drop z s) far in

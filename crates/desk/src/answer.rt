@@ -1,5 +1,5 @@
 // One frame: answered, told, and counted.
-ghost use Rattle.std.specs.Prelude.{◌≡◌, ◌*◌, ◌<◌, length};
+ghost use Rattle.std.specs.Prelude.{◌≡◌, ◌*◌, ◌<◌, length, true};
 ghost use Rattle.io.specs.Counts.{IsPrefixLen};
 ghost use Rattle.modem.specs.Frames.{framed};
 ghost use Rattle.desk.specs.Tally.{counted_at, counted_as};
@@ -14,6 +14,7 @@ use modem::serve::{Served, serve};
 use row::progress::Whom;
 use seating::heed::{Heeded, Seating};
 use std::fmt::{Display, Write};
+use std::io::Error;
 use text::tally::Tally;
 
 // Who sits there, how many frames had each result and were for each seat, and whether more frames are served. A flag and no Option: the
@@ -75,7 +76,9 @@ impl<const ROOM: usize> Lent<'_, ROOM> {
                     seating: &desk.seating,
                     tally: &desk.tally,
                 };
-                write_text(self.rt, counts, self.out);
+                if let Err(error) = write_text(self.rt, counts, self.out) {
+                    say_untold(self.rt, error);
+                }
             }
         }
     }
@@ -98,21 +101,27 @@ pub(crate) fn answer(
     let Some(served) = serve(desk.seating, links, frame, room, out) else {
         return closed(desk);
     };
-    let is_told = tell(rt, show, frame, served, room, out);
-    answered(desk, served.heeded, is_told)
+    let after = answered(desk, served.heeded);
+    match tell(rt, show, frame, served, room, out) {
+        Ok(()) => after,
+        Err(error) => {
+            say_untold(rt, error);
+            closed(after)
+        }
+    }
 }
 
-fn answered(desk: Desk, h: Heeded, is_told: bool) -> Desk
+fn answered(desk: Desk, h: Heeded) -> Desk
     ensures { result ≡ record {
       seating = h.next;
       tally = counted_as desk.tally h.number h.whom;
-      is_open = is_told;
+      is_open = true;
     } }
 {
     Desk {
         seating: h.next,
         tally: counted_as(desk.tally, h.number, h.whom),
-        is_open: is_told,
+        is_open: true,
     }
 }
 
@@ -146,7 +155,7 @@ fn tell(
     served: Served,
     room: &[u8],
     out: &mut [u8],
-) -> bool
+) -> Result<(), Error>
     requires prefix_len { IsPrefixLen served.sent out.old }
     requires prefix_len_2 { IsPrefixLen served.heeded.length room.now }
     requires handed { Handed frame.now served.heeded served.sent room.now out.old }
@@ -166,26 +175,24 @@ fn tell(
 }
 
 // The frames of a reply, and nothing else. The reply stands beside them so that it can be said which.
-fn send(rt: HostRuntime, frames: &[u8], reply: &[u8]) -> bool
+fn send(rt: HostRuntime, frames: &[u8], reply: &[u8]) -> Result<(), Error>
     requires { frames.now ≡ framed reply.now }
 {
     write_out(rt, frames)
 }
 
 // In one write. A line refuses no text: what no longer fits is left out.
-fn write_text<T: Display + Drop>(rt: HostRuntime, text: T, out: &mut [u8]) -> bool {
+fn write_text<T: Display + Drop>(rt: HostRuntime, text: T, out: &mut [u8]) -> Result<(), Error> {
     let mut line = Line::new(out);
     let _ = write!(line, "{text}");
     write_out(rt, line.laid())
 }
 
-// Whether all of it was written; where not, that is said on standard error.
-fn write_out(rt: HostRuntime, bytes: &[u8]) -> bool {
-    match rt.stdout().write_all(bytes) {
-        Ok(()) => true,
-        Err(error) => {
-            say_failed(rt, "standard output", error);
-            false
-        }
-    }
+fn write_out(rt: HostRuntime, bytes: &[u8]) -> Result<(), Error> {
+    rt.stdout().write_all(bytes)
+}
+
+// A reply or a line that could not be written: said on standard error, once, where it was to be told.
+fn say_untold(rt: HostRuntime, error: Error) {
+    say_failed(rt, "standard output", error);
 }

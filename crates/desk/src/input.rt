@@ -17,10 +17,9 @@ pub(crate) fn read_behind<R: Read>(
     ensures grown { Grown n (length bytes.old) result }
     ensures bytes_unchanged { take n bytes.new ≡ take n bytes.old }
 {
-    match from.read(&mut bytes[n..]) {
-        Ok(0) => Ok(None),
-        Ok(more) => Ok(Some(n + more)),
-        Err(error) => Err(error),
+    match from.read(&mut bytes[n..])? {
+        0 => Ok(None),
+        more => Ok(Some(n + more)),
     }
 }
 

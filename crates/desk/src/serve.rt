@@ -17,6 +17,7 @@ struct Progress {
 }
 
 impl<const ROOM: usize> Lent<'_, ROOM> {
+    #[tactic(auto, using(crate::proofs::Held::at_first, crate::proofs::Held::go_on_lem))]
     pub(crate) fn serve_until_end(&mut self, desk: Desk, held: &mut [u8])
         requires { 25 ≤ length held.old }
         ensures { EndPromise desk self.old.links.now self.old.room.now self.new.links.now }
@@ -32,6 +33,7 @@ impl<const ROOM: usize> Lent<'_, ROOM> {
     }
 
     // One read, and all that follows from it; how many bytes are held then. At the end they are dropped: nobody serves them.
+    #[tactic(auto, using(crate::proofs::Held::read_on, crate::proofs::Held::no_read))]
     fn serve_one_read(&mut self, before: Progress, held: &mut [u8]) -> Progress
         requires { before.count < length held.old }
         ensures { ReadPromise before self.old.links.now self.old.room.now held.old
@@ -51,6 +53,7 @@ impl<const ROOM: usize> Lent<'_, ROOM> {
     }
 
     // Every whole frame of what is held is served, and the rest is moved to the start; how many bytes that is.
+    #[tactic(auto, using(crate::proofs::Held::moved))]
     fn serve_held(&mut self, desk: Desk, held: &mut [u8]) -> Progress
         ensures { HeldPromise desk self.old.links.now self.old.room.now held.old
             result self.new.links.now held.new }
@@ -64,6 +67,7 @@ impl<const ROOM: usize> Lent<'_, ROOM> {
     }
 
     // Every whole frame of what has arrived; how many bytes are done with.
+    #[tactic(auto, using(crate::proofs::Ahead::lies, crate::proofs::Passed::still))]
     fn serve_arrived(&mut self, desk: Desk, arrived: &[u8]) -> Progress
         ensures { ArrivedPromise desk self.old.links.now self.old.room.now arrived.now
             result self.new.links.now }
@@ -99,6 +103,7 @@ fn stopped(before: Progress) -> Progress
 }
 
 // The next frame behind the first `used` bytes; its place is counted from the start of all.
+#[tactic(auto, using(modem::proofs::Placed::found, modem::proofs::Placed::waits))]
 fn seek_from(arrived: &[u8], used: usize) -> Seen
     requires { used ≤ length arrived.now }
     ensures { result ≡ seek_behind used arrived.now }

@@ -1,6 +1,5 @@
 // What the words of the command line ask for.
-ghost use Rattle.std.specs.Prelude.{◌≡◌};
-ghost use Rattle.io.specs.Counts.{IsPrefixLen};
+ghost use Rattle.std.specs.Prelude.{◌≡◌, ◌≤◌, length};
 ghost use Rattle.desk.specs.Word.{one_word, two_words, wished, class_wished};
 
 use crate::Show;
@@ -18,16 +17,17 @@ pub(crate) struct Wish {
 pub(crate) fn asked(rt: HostRuntime) -> Option<Wish> {
     let mut first = [0; 8];
     let mut second = [0; 8];
-    let n = word_at(rt, 1, &mut first);
-    let k = word_at(rt, 2, &mut second);
-    wished(count_words(rt), &first[..n], &second[..k])
+    let first = word_at(rt, 1, &mut first);
+    let second = word_at(rt, 2, &mut second);
+    wished(count_words(rt), first, second)
 }
 
-// How long it is. One that does not fit comes as an empty one, which is no word of ours either, and so does a missing one.
-fn word_at(rt: HostRuntime, i: usize, word: &mut [u8]) -> usize
-    ensures { IsPrefixLen result word.new }
+// One that does not fit comes as an empty one, which is no word of ours either, and so does a missing one.
+fn word_at(rt: HostRuntime, i: usize, room: &mut [u8; 8]) -> &[u8]
+    ensures { length result.now ≤ 8 }
 {
-    rt.arg(i, word).unwrap_or(0)
+    let n = rt.arg(i, room).unwrap_or(0);
+    &room[..n]
 }
 
 // How many there are, as far as it makes a difference.
@@ -40,6 +40,7 @@ fn is_missing(rt: HostRuntime, i: usize) -> bool {
 }
 
 // The program's own name is counted too. With no word it is the paper's program.
+#[tactic(auto, unfolding(crate::specs::Word::wished, basis::specs::Choice::choose))]
 fn wished(count: usize, first: &[u8], second: &[u8]) -> Option<Wish>
     ensures { result ≡ wished count first.now second.now }
 {
@@ -58,6 +59,7 @@ fn wished(count: usize, first: &[u8], second: &[u8]) -> Option<Wish>
     }
 }
 
+#[tactic(auto, unfolding(crate::specs::Word::one_word, basis::specs::Choice::choose))]
 fn one_word(word: &[u8]) -> Option<Wish>
     ensures { result ≡ one_word word.now }
 {
@@ -74,6 +76,7 @@ fn one_word(word: &[u8]) -> Option<Wish>
     })
 }
 
+#[tactic(auto, unfolding(crate::specs::Word::two_words, basis::specs::Choice::choose))]
 fn two_words(first: &[u8], second: &[u8]) -> Option<Wish>
     ensures { result ≡ two_words first.now second.now }
 {
@@ -94,10 +97,11 @@ pub(crate) fn list_words(rt: HostRuntime) {
 // For a class, whose kinds stand in a file: what is written for each frame.
 pub(crate) fn asked_of_class(rt: HostRuntime) -> Option<Show> {
     let mut word = [0; 8];
-    let n = word_at(rt, 1, &mut word);
-    class_wished(count_words(rt), &word[..n])
+    let word = word_at(rt, 1, &mut word);
+    class_wished(count_words(rt), word)
 }
 
+#[tactic(auto, unfolding(crate::specs::Word::class_wished, basis::specs::Choice::choose))]
 fn class_wished(count: usize, word: &[u8]) -> Option<Show>
     ensures { result ≡ class_wished count word.now }
 {

@@ -2,7 +2,8 @@
 ghost use Rattle.std.specs.Prelude.{◌≡◌, [], ◌∷◌};
 ghost use Rattle.basis.specs.Laid.{laid_if_fits};
 
-// A report shorter than two numbers is left as it is.
+// A report shorter than two numbers is left as it is. By `as`, as std has no `From` between the two types, and `try_from` an error that
+// cannot arise.
 #[tactic(auto, using(basis::proofs::Laid::fits), unfolding(basis::specs::Laid::laid_if_fits, basis::specs::Choice::choose))]
 pub fn tell(report: &mut [u64], sent: usize, read: usize)
     ensures { report.new ≡ laid_if_fits report.old (sent ∷ read ∷ []) }

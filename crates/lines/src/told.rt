@@ -35,7 +35,7 @@ impl fmt::Display for Told<'_> {
     }
 }
 
-// Seats are told by the number of their line.
+// Seats are told by the number of their line. An array and its count, as `Seating` has them.
 fn write_seats<W: fmt::Write>(
     f: &mut fmt::Formatter<W>,
     row: &[Module; 16],
@@ -73,6 +73,7 @@ fn heard<'a>(frame: &'a [u8], h: &Heeded, reply: &'a [u8]) -> Heard<'a>
         frame,
         load: shown_for(&h.next, h.whom),
         reply,
+        // std has no `From` between the two, and `try_from` an error that cannot arise
         read: h.read as u64,
     }
 }

@@ -64,6 +64,7 @@ pub(crate) fn number_in(line: &[u8]) -> usize {
     line.iter().fold(0, |n, c| with_digit(n, *c))
 }
 
+// By hand, as what stands between the digits is passed over.
 fn with_digit(n: usize, c: u8) -> usize {
     match c {
         b'0'..=b'9' if n <= 1000000 => 10 * n + usize::from(c - b'0'),
@@ -98,6 +99,7 @@ fn pair(a: u8, b: u8) -> Option<Spelled> {
     Some(Spelled::Byte(16 * high + low))
 }
 
+// By hand: std's `from_str_radix` is of a `str`, and takes a sign and small letters too.
 fn digit(c: u8) -> Option<u8>
     ensures { IfSome result (λ d. d < 16) }
 {

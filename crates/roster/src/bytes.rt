@@ -41,6 +41,7 @@ fn byte_of(word: &[u8]) -> Option<u8>
     }
 }
 
+// By hand: std's `from_str_radix` is of a `str`, and takes a sign too.
 #[tactic(auto, unfolding(crate::specs::Bytes::digit_of, basis::specs::Choice::choose))]
 fn digit_of(x: u8) -> Option<u8>
     ensures value { result ≡ digit_of x }

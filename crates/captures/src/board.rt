@@ -6,6 +6,9 @@ use arrayvec::ArrayVec;
 use embed::call::dreelish_step;
 use image::places;
 
+// As long as the longest reply ("The program").
+const ROOM: usize = 5897;
+
 // What the room holds before a message.
 pub(crate) const BLANK: u8 = 0xee;
 
@@ -78,7 +81,7 @@ pub(crate) struct Board {
     pub now: State,
     // the module before the last message
     pub before: Image,
-    pub room: [u8; 5897],
+    pub room: [u8; ROOM],
     // How much of the room is lent to a message. The rest counts too, since it has to stay as it is, and where this is more than there
     // is, nothing is heard: so it is no length of the room.
     lent: usize,
@@ -93,8 +96,8 @@ impl Board {
             start: State::new(),
             now: State::new(),
             before: fresh(Kind::Dimmer),
-            room: [BLANK; 5897],
-            lent: 5897,
+            room: [BLANK; ROOM],
+            lent: ROOM,
             result: 0,
             report: [0; 2],
         }
@@ -140,7 +143,7 @@ impl Board {
 
     pub(crate) fn begin(&mut self) {
         self.now.copy_from(&self.start);
-        self.lent = 5897;
+        self.lent = ROOM;
     }
 
     pub(crate) fn set_room(&mut self, line: &[u8]) {
@@ -149,7 +152,7 @@ impl Board {
 
     pub(crate) fn hear(&mut self, line: &[u8]) {
         let message: ArrayVec<u8, 64> = bytes_in(line);
-        let mut room = [BLANK; 5897];
+        let mut room = [BLANK; ROOM];
         let mut report = [0; 2];
         let Some(lent) = room.get_mut(..self.lent) else {
             return;

@@ -99,7 +99,7 @@ fn pair(a: u8, b: u8) -> Option<Spelled> {
     Some(Spelled::Byte(16 * high + low))
 }
 
-// By hand: std's `from_str_radix` is of a `str`, and takes a sign and small letters too.
+// By hand: std's `to_digit` takes small letters too.
 fn digit(c: u8) -> Option<u8>
     ensures { IfSome result (λ d. d < 16) }
 {

@@ -19,8 +19,7 @@ pub(crate) fn is_call(to: Address, command: GroupCommand) -> bool
     ensures { result ≡ is_call to command }
 {
     match command {
-        GroupCommand::On => (to.high == 0x00) & (to.middle == 0x00),
-        GroupCommand::Off => (to.high == 0x00) & (to.middle == 0x00),
+        GroupCommand::On | GroupCommand::Off => (to.high == 0x00) & (to.middle == 0x00),
         GroupCommand::Unlisted => false,
     }
 }

@@ -70,11 +70,7 @@ fn needs_no_link(command: Command) -> bool
 fn is_open(command: Standard) -> bool
     ensures { result ≡ is_open command }
 {
-    match command {
-        Standard::Open(_) => true,
-        Standard::Module(_) => false,
-        Standard::Load => false,
-    }
+    matches!(command, Standard::Open(_))
 }
 
 // What comes of a message, with the data bytes beside it, of what the search found, and with `records` records in link memory.

@@ -46,7 +46,7 @@ pub fn teach(rt: HostRuntime) {
 }
 
 fn teach_as(rt: HostRuntime, show: Show) {
-    // one byte more than is taken, so that a longer file is seen to be too long
+    // An array and how much of it was read, as there is no heap. One byte more than is taken, so that a longer file is seen to be too long.
     let mut text = [0; 4097];
     let Some(n) = load(rt, "row", true, &mut text) else {
         return;
@@ -65,7 +65,7 @@ fn teach_as(rt: HostRuntime, show: Show) {
 
 // What goes wrong with a file is said on standard error, and ends it too.
 fn serve_all(rt: HostRuntime, show: Show, seating: Seating) {
-    // one byte more than sixteen shares have, so that a longer file is seen to be unfit
+    // One byte more than sixteen shares have, so that a longer file is seen to be unfit. An array, too, and how much of it was read.
     let mut memory = [0; 32769];
     let Some(n) = load(rt, "links.bin", false, &mut memory) else {
         return;

@@ -45,11 +45,7 @@ fn wished(count: usize, first: &[u8], second: &[u8]) -> Option<Wish>
     ensures { result ≡ wished count first.now second.now }
 {
     match count {
-        0 => Some(Wish {
-            kind: Kind::Dimmer,
-            show: Show::Frames,
-        }),
-        1 => Some(Wish {
+        0 | 1 => Some(Wish {
             kind: Kind::Dimmer,
             show: Show::Frames,
         }),

@@ -4,11 +4,8 @@ ghost use Rattle.embed.specs.Call.{returned_of};
 
 use device::step::step;
 use image::held::held_in;
-use image::report::tell;
+use image::report::{UNFIT, tell};
 use image::store::store;
-
-// The number of an image or a report that does not fit: a number, as all that this call gives, since C reads it.
-const UNFIT: u64 = 255;
 
 pub fn dreelish_step(
     image: &mut [u8],

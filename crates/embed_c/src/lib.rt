@@ -1,4 +1,5 @@
-// The call to one module for C, Rust and Python, as `dreelish.h` in the crate `embed` declares it: that crate's function, with its very clauses.
+// The call to one module for C, Rust and Python, as `dreelish.h` in the crate `embed` declares it: that crate's function,
+// with its very clauses. Once more, as no crate can stand on a static library.
 #![tactic(auto)]
 
 ghost use Rattle.image.specs.Returned.{Returns};

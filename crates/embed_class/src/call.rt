@@ -4,11 +4,8 @@ ghost use Rattle.embed_class.specs.ClassCall.{class_returned_of};
 
 use crate::serve::serve_row;
 use crate::strip::is_row;
-use image::report::tell;
+use image::report::{UNFIT, tell};
 use row::outcome::ClassOutcome;
-
-// The number of images or a report that do not fit: a number, as all that this call gives, since C reads it.
-const UNFIT: u64 = 255;
 
 #[tactic(auto, using(crate::proofs::ClassServed::call_steps))]
 pub fn dreelish_class_step(

@@ -49,11 +49,7 @@ pub(crate) fn serve_row(
 fn is_for_all(round: Round) -> bool
     ensures { result ≡ is_for_all round }
 {
-    match round {
-        Round::Note => false,
-        Round::One => false,
-        Round::All => true,
-    }
+    matches!(round, Round::All)
 }
 
 // One seat, with its own image and its own share.

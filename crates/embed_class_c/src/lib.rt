@@ -1,5 +1,5 @@
 // The call to a class for C, Rust and Python, as `dreelish.h` in the crate `embed` declares it: the function of `embed_class`, with its very
-// clauses. It is an archive of its own, as `embed_class` is a library of its own.
+// clauses. Once more, as no crate can stand on a static library.
 #![tactic(auto)]
 
 ghost use Rattle.image.specs.Returned.{Returns};

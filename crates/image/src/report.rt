@@ -2,6 +2,9 @@
 ghost use Rattle.std.specs.Prelude.{◌≡◌, [], ◌∷◌};
 ghost use Rattle.basis.specs.Laid.{laid_if_fits};
 
+// The number of images or a report that do not fit: a number, as all that the calls give, since C reads it.
+pub const UNFIT: u64 = 255;
+
 // A report shorter than two numbers is left as it is. By `as`, as std has no `From` between the two types, and `try_from` an error that
 // cannot arise.
 #[tactic(auto, using(basis::proofs::Laid::fits), unfolding(basis::specs::Laid::laid_if_fits, basis::specs::Choice::choose))]

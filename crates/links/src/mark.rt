@@ -10,11 +10,8 @@ use crate::memory::{is_end_mark, record_at, records};
 pub fn up_to_mark(links: &[u8], k: usize, n: usize) -> usize
     ensures { result ≡ up_to_mark links.now (min n (records links.now - k)) k }
 {
-    let count = records(links);
-    if count <= k {
-        return 0;
-    }
-    count_to_mark(links, k, n.min(count - k))
+    let left = records(links).saturating_sub(k);
+    count_to_mark(links, k, n.min(left))
 }
 
 // The same of records that are there.

@@ -46,12 +46,12 @@ pub(crate) fn start_of(links: &[u8], k: usize) -> usize
     k * 8
 }
 
-// Record `k`. Past the last record it is a never-used one, eight 00.
+// Record `k`. Past the last record it is a never-used one, eight 00: no Option, as the clause says the eight bytes (`record_or_blank`).
 #[tactic(auto, unfolding(basis::specs::Choice::choose))]
 pub fn record_or_blank(links: &[u8], k: usize) -> [u8; 8]
     ensures { result ≡ record_or_blank links.now k }
 {
-    if k < links.len() / 8 {
+    if k < records(links) {
         record_at(links, k)
     } else {
         [0; 8]
@@ -82,7 +82,7 @@ pub(crate) fn link_of(record: [u8; 8]) -> Link
     }
 }
 
-// Bit 1 clear: the end mark.
+// Bit 1 clear: the end mark. This test and the two behind it differ in a bit, and stay three: the paper names each.
 pub fn is_end_mark(record: [u8; 8]) -> bool
     ensures { result ≡ is_end_mark «record» }
 {

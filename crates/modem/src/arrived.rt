@@ -41,14 +41,7 @@ fn stops_at(s: &[u8], k: usize) -> bool
     requires { k < length s.now }
     ensures { result ≡ stops_at s.now k }
 {
-    if s[k] != 0x02 {
-        return false;
-    }
-    let next = k + 1;
-    if next == s.len() {
-        return true;
-    }
-    (s[next] == 0x50) | (s[next] == 0x51)
+    matches!(&s[k..], [0x02] | [0x02, 0x50 | 0x51, ..])
 }
 
 // A standard message has nine bytes and an extended one twenty-three; two stand before it.
@@ -57,11 +50,10 @@ fn size_at(s: &[u8], k: usize) -> usize
     requires { k ≤ length s.now }
     ensures { result ≡ size_at s.now k }
 {
-    if s.len() - k < 2 {
-        return 11;
+    match s.get(k + 1) {
+        Some(0x51) => 25,
+        _ => 11,
     }
-    let next = k + 1;
-    if s[next] == 0x51 { 25 } else { 11 }
 }
 
 // The bytes from `from` on, moved to the start; those that stand behind them there stay.

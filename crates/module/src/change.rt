@@ -7,7 +7,7 @@ use load::state::Load;
 
 #[derive(Clone, Copy)]
 pub enum Change {
-    // No Option of the others: `apply` and the theorems on refused messages go by the whole list.
+    // No Option of the others: `apply` and the theorem `fate` go by the whole list.
     Nothing,
     Flags(u8),
     Led(u8),

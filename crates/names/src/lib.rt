@@ -58,8 +58,9 @@ impl fmt::Display for Asked {
             MessageKind::Direct(r, command) => {
                 write!(f, " {}", direct(r.command1, command, self.load))
             }
-            MessageKind::Cleanup(_, command) => write!(f, " {}", group_command(command)),
-            MessageKind::Broadcast(_, _, command) => write!(f, " {}", group_command(command)),
+            MessageKind::Cleanup(_, command) | MessageKind::Broadcast(_, _, command) => {
+                write!(f, " {}", group_command(command))
+            }
             MessageKind::Foreign => Ok(()),
         }
     }

@@ -48,7 +48,7 @@ pub struct Asked {
     // As it was sent.
     pub data1: u8,
     pub first: usize,
-    // How many at most, 0 for no limit: the number as it was sent, which the definitions take so.
+    // How many at most, 0 for no limit: no Option, but the number as it was sent, which `limit` and `count_sent` take so.
     pub most: usize,
 }
 

@@ -43,9 +43,7 @@ fn record_data(links: &[u8], k: usize, data1: u8) -> [u8; 14]
     let mut data = [0x00; 14];
     data[0] = data1;
     data[1] = 0x01;
-    // By two divisions: `to_be_bytes` is of a number of just two bytes, and the way to one is longer.
-    data[2] = (name / 256) as u8;
-    data[3] = (name % 256) as u8;
+    data[2..4].copy_from_slice(&(name as u16).to_be_bytes());
     data[5..13].copy_from_slice(&record_or_blank(links, k));
     data
 }
@@ -82,8 +80,8 @@ pub(crate) fn put_records(
     let data = record_data(links, first, data1);
     put_extended(room, &each, &data);
     for i in 1..n {
-        // Read again from the first message, where eight bytes go in one move. Kept in an array, those of an address go one by one: 256
-        // records take 16,087 instructions then, and 13,547 so.
+        // Read again from the first message, where eight bytes go in one move. Kept in an array, those of an address go one by one: a whole
+        // database takes a fifth more instructions then, which is more than the form before took.
         let each = laid_head(room);
         let at = 23 * i;
         let data = record_data(links, first + i, data1);

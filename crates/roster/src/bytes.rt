@@ -10,6 +10,9 @@ use arrayvec::ArrayVec;
 // No line has more than seven.
 pub(crate) type Bytes = ArrayVec<u8, 7>;
 
+// A line and a place in it stay two parameters, here and in `words`: each search goes on from the place that the one before it says, and a
+// struct of both would be made anew at each.
+
 // All words from a place on; none where one of them is no byte, or where there are too many.
 #[tactic(auto, using(crate::proofs::Taken::byte_steps))]
 pub(crate) fn bytes_behind(line: &[u8], from: usize) -> Option<Bytes>
@@ -41,16 +44,10 @@ fn byte_of(word: &[u8]) -> Option<u8>
     }
 }
 
-// By hand: std's `from_str_radix` is of a `str`, and takes a sign too.
 #[tactic(auto, unfolding(crate::specs::Bytes::digit_of, basis::specs::Choice::choose))]
 fn digit_of(x: u8) -> Option<u8>
     ensures value { result ≡ digit_of x }
     ensures upper_bound { IfSome result (λ digit. digit < 16) }
 {
-    match x {
-        b'0'..=b'9' => Some(x - b'0'),
-        b'A'..=b'F' => Some(x - b'A' + 10),
-        b'a'..=b'f' => Some(x - b'a' + 10),
-        _ => None,
-    }
+    char::from(x).to_digit(16).map(|digit| digit as u8)
 }

@@ -14,7 +14,7 @@ pub(crate) fn seat_named(names: &[Address], a: Address) -> Option<usize>
 }
 
 // The low byte is asked first: it tells most addresses apart, and `==` alone begins with the high one. With that a message to the last of
-// sixteen seats takes 1,436 instructions, and 1,319 so, where the form before took 1,366.
+// sixteen seats takes a hundred instructions more, which is more than the form before took.
 fn is_same(a: Address, b: Address) -> bool
     ensures { result ≡ equals a b }
 {

@@ -23,7 +23,8 @@ pub(crate) fn database_deed(r: Request, data: [u8; 14], records: usize) -> Deed
 fn record_deed(data: [u8; 14], records: usize) -> Deed
     ensures { result ≡ record_deed «data» records }
 {
-    let place = place_of(records, usize::from(data[2]) * 256 + usize::from(data[3]));
+    let address = u16::from_be_bytes([data[2], data[3]]);
+    let place = place_of(records, usize::from(address));
     match data[1] {
         0x00 => get_deed(data, place),
         0x02 => set_deed(data, place),

@@ -99,10 +99,7 @@ fn is_whole(message: &[u8]) -> bool
 pub fn is_extended(message: &[u8]) -> bool
     ensures { result ≡ is_extended message.now }
 {
-    if message.len() < 7 {
-        return false;
-    }
-    message[6] / 16 % 2 == 1
+    message.get(6).is_some_and(|flags| flags / 16 % 2 == 1)
 }
 
 // Result 3.

@@ -12,7 +12,8 @@ use results::Outcome;
 use wire::kind::Message;
 use wire::read::read;
 
-// What a call answers: the reply's length and the module afterwards beside the outcome and the records read.
+// What a call answers: the reply's length and the module afterwards beside the outcome and the records read. A length, and no slice of the
+// room that is lent, as `StepPromise` says a number and the whole room.
 #[derive(Clone, Copy)]
 pub struct Answer {
     pub outcome: Outcome,

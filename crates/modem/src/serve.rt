@@ -5,7 +5,7 @@ use crate::frames::put_frames;
 use basis::min;
 use seating::heed::{Heeded, Seating, heed};
 
-// What its message came to, and how many bytes of frames there are.
+// What its message came to, and how many bytes of frames there are: a number, and no slice of what is lent, as `ServePromise` says it.
 #[derive(Clone, Copy)]
 pub struct Served {
     pub heeded: Heeded,

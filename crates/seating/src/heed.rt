@@ -14,7 +14,8 @@ pub enum Seating {
 }
 
 // The paper's number, the reply's length, the records read, whom it was for, and who sits there afterwards. A module alone is the first
-// seat. A number and no outcome: `Heeds` and the theorems over it speak of the paper's numbers, for a module and a class alike.
+// seat. A number and no outcome: `Heeds` and the theorems over it speak of the paper's numbers, for a module and a class alike; and so of
+// the reply's length, which is no slice of the room that is lent.
 #[derive(Clone, Copy)]
 pub struct Heeded {
     pub number: u8,

@@ -216,6 +216,7 @@ pub record EachOnce : Type 1 where
   pub load-fresh-lamp : Only (λ (r : Lamp). r ≡ fresh_lamp)
   pub load-fresh-sockets : Only (λ (r : Sockets). r ≡ fresh_sockets)
   pub letters-write-str : (page : Page) (text : List ℕ) → Only (λ (after : Page). Lays page text after)
-  pub dimmer-entry-of : (lamp : Lamp) (q : Request) (d : List ℕ) (command : Command) → Only (λ (r : LoadEntry Lamp). r ≡ dimmer.entry_of lamp q d command)
+  pub dimmer-entry-of : (lamp : Lamp) (q : Request) (d : List ℕ) (command : Command)
+      → Only (λ (r : LoadEntry Lamp). r ≡ dimmer.entry_of lamp q d command)
   pub outlet-entry-of : (sockets : Sockets) (q : Request) (d : List ℕ) (command : Command)
       → Only (λ (r : LoadEntry Sockets). r ≡ outlet.entry_of sockets q d command)

@@ -43,6 +43,7 @@ fn record_data(links: &[u8], k: usize, data1: u8) -> [u8; 14]
     let mut data = [0x00; 14];
     data[0] = data1;
     data[1] = 0x01;
+    // at most 0F FF; `try_from` would have an error that cannot arise
     data[2..4].copy_from_slice(&(name as u16).to_be_bytes());
     data[5..13].copy_from_slice(&record_or_blank(links, k));
     data

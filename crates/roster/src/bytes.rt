@@ -44,6 +44,7 @@ fn byte_of(word: &[u8]) -> Option<u8>
     }
 }
 
+// A digit is below 16, so that `try_from` would have an error that cannot arise.
 #[tactic(auto, unfolding(crate::specs::Bytes::digit_of, basis::specs::Choice::choose))]
 fn digit_of(x: u8) -> Option<u8>
     ensures value { result ≡ digit_of x }

@@ -41,7 +41,8 @@ fn stops_at(s: &[u8], k: usize) -> bool
     requires { k < length s.now }
     ensures { result ≡ stops_at s.now k }
 {
-    matches!(&s[k..], [0x02] | [0x02, 0x50 | 0x51, ..])
+    // the byte first: most are no 02, and then nothing else is asked
+    s[k] == 0x02 && matches!(&s[k + 1..], [] | [0x50 | 0x51, ..])
 }
 
 // A standard message has nine bytes and an extended one twenty-three; two stand before it.

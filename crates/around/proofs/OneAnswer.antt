@@ -1,7 +1,10 @@
 -- One answer only, by one law.
 use Prim.Native.Nat.{ℕ}
-use mathlib.Core.Path.{◌≡◌, sym, ◌∙◌}
+use mathlib.Core.Path.{◌≡◌, sym, ap, ◌∙◌}
 use mathlib.Core.List.{List}
+use Rattle.std.proofs.Common.{length, take, drop, ◌++◌}
+use Rattle.std.proofs.lemmas.List.{take-append-drop}
+use Rattle.io.specs.Counts.{IsPrefixLen}
 use Rattle.wire.specs.declared.address.Address.{Address}
 use Rattle.reply.specs.declared.due.Due.{Due}
 use Rattle.reply.specs.Reply.{reply_of}
@@ -14,10 +17,10 @@ use Rattle.class.specs.Seats.{SeatsCome}
 use Rattle.seating.specs.declared.heed.Seating.{Seating}
 use Rattle.seating.specs.Heed.{Heed, Heeds}
 use Rattle.modem.specs.Serve.{Turn, ServePromise}
-use Rattle.letters.specs.Page.{Page}
+use Rattle.letters.specs.Page.{Page, cut_at}
 use Rattle.letters.specs.Laid.{Begins}
 use Rattle.image.specs.Returned.{Returned, Returns}
-use Rattle.around.specs.OneAnswer.{Only, Delivered, Called, ClassCalled, SeatsCalled, HeedCalled, EachOnce}
+use Rattle.around.specs.OneAnswer.{Only, Delivered, Called, ClassCalled, SeatsCalled, HeedCalled, Put, EachOnce}
 
 -- a promise that says what its result is equal to
 by_value : {A : Type 0} (z : A) → Only (λ (r : A). r ≡ z)
@@ -108,6 +111,16 @@ embedded t x y p q =
       report = by_value _ _ _ p.report-after q.report-after i;
     }
 
+-- what is laid and what stands behind it make the line, and the count is as long as the first
+putting : (page : Page) → Only (λ (p : Put). IsPrefixLen p.count p.line × (cut_at p.count p.line ≡ page))
+putting page x y p q =
+    let same : cut_at x.count x.line ≡ cut_at y.count y.line = by_value _ _ _ p.1 q.1 in
+    let laid : take x.count x.line ≡ take y.count y.line = ap (λ (a : Page). a.laid) same in
+    let whole : take x.count x.line ++ drop x.count x.line ≡ take y.count y.line ++ drop y.count y.line = ap (λ (a : Page). a.laid ++ a.behind) same in
+    let line : x.line ≡ y.line = sym (take-append-drop x.count x.line) ∙ whole ∙ take-append-drop y.count y.line in
+    let count : x.count ≡ y.count = p.0.1 ∙ ap length laid ∙ sym q.0.1 in
+    λ i. record { count = count i; line = line i }
+
 begun : (bytes : List ℕ) → Only (λ (page : Page). Begins bytes page)
 begun bytes x y p q = λ i. record { laid = by_value _ _ _ p.0 q.0 i; behind = by_value _ _ _ p.1 q.1 i }
 
@@ -182,6 +195,7 @@ each_once =
       image-tell = λ _ _ _. by_value _;
       embed-dreelish-step = λ _ _ _ _ _. embedded _;
       embed-class-dreelish-class-step = λ _ _ _ _ _ _. embedded _;
+      letters-put = λ _ _ _. putting _;
       letters-new = λ _. begun _;
       letters-laid = λ _. by_value _;
       wire-equals = λ _ _. by_value _;

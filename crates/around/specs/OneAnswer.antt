@@ -81,8 +81,9 @@ use Rattle.roster.specs.Word.{named}
 use Rattle.roster.specs.Seat.{fresh_as, fresh_at, bench_of}
 use Rattle.roster.specs.Line.{Line, line_of}
 use Rattle.roster.specs.Roster.{roster_of}
-use Rattle.letters.specs.Page.{Page}
-use Rattle.letters.specs.Laid.{laid_in, Begins, Lays}
+use Rattle.io.specs.Counts.{IsPrefixLen}
+use Rattle.letters.specs.Page.{Page, cut_at}
+use Rattle.letters.specs.Laid.{laid_in, laid_behind, Begins, Lays}
 use Rattle.image.specs.Image.{is_image, held_in, stored_if_own}
 use Rattle.image.specs.Returned.{Returned, Returns}
 use Rattle.embed.specs.Call.{returned_of}
@@ -121,6 +122,11 @@ pub record HeedCalled : Type 0 where
   pub heeded : Heeded
   pub links : List ℕ
   pub room : List ℕ
+
+-- a line, and how many of its bytes are laid
+pub record Put : Type 0 where
+  pub count : ℕ
+  pub line : List ℕ
 
 -- every public function by its crate and its name, lowest first
 pub record EachOnce : Type 1 where
@@ -204,6 +210,8 @@ pub record EachOnce : Type 1 where
       → Only (λ (c : Returned). Returns (returned_of image l s room report) c.number c.image c.links c.room c.report)
   pub embed-class-dreelish-class-step : (images : List ℕ) (n : ℕ) (l s room report : List ℕ)
       → Only (λ (c : Returned). Returns (class_returned_of images n l s room report) c.number c.image c.links c.room c.report)
+  pub letters-put : (line : List ℕ) (at : ℕ) (bytes : List ℕ)
+      → Only (λ (p : Put). IsPrefixLen p.count p.line × (cut_at p.count p.line ≡ laid_behind (cut_at at line) bytes))
   pub letters-new : (bytes : List ℕ) → Only (λ (page : Page). Begins bytes page)
   pub letters-laid : (page : Page) → Only (λ (r : List ℕ). r ≡ laid_in page)
   -- what a trait of std's, or the trait of kinds, gives of a type

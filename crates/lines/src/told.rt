@@ -8,7 +8,7 @@ use names::LoadShown;
 use row::progress::Whom;
 use seating::heed::{Heeded, Seating};
 use std::fmt;
-use text::line::Heard;
+use text::line::{Heard, Seat};
 
 // A line: what was heard, and what the load is at, in a class that of the seat that it was for, or of every one.
 #[derive(Clone, Copy)]
@@ -44,9 +44,12 @@ fn write_seats<W: fmt::Write>(
 ) -> fmt::Result {
     for (i, m) in row.iter().take(count).enumerate() {
         if is_for(whom, i) {
-            let seat = i + 1;
-            let load = load_shown(m.load);
-            write!(f, " | seat {seat} | {load}")?;
+            let shown = Seat {
+                // std has no `From` between the two
+                seat: i as u64 + 1,
+                load: load_shown(m.load),
+            };
+            write!(f, "{shown}")?;
         }
     }
     Ok(())

@@ -2,6 +2,7 @@
 // tables of the kinds list it.
 #![tactic(auto)]
 
+use letters::Hex;
 use std::fmt;
 use wire::command::{Command, Extended, GroupCommand, ModuleCommand, OpenCommand, Standard};
 use wire::kind::MessageKind;
@@ -17,7 +18,7 @@ pub enum LoadShown {
 impl fmt::Display for LoadShown {
     fn fmt<W: fmt::Write>(&self, f: &mut fmt::Formatter<W>) -> fmt::Result {
         match *self {
-            LoadShown::Level(level) => write!(f, "level {level:02X}"),
+            LoadShown::Level(level) => write!(f, "level{}", Hex(&[level])),
             LoadShown::Sockets(top, bottom) => {
                 write!(f, "top {}, bottom {}", switch(top), switch(bottom))
             }

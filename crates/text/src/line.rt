@@ -17,34 +17,48 @@ pub struct Heard<'a> {
 
 impl fmt::Display for Heard<'_> {
     fn fmt<W: fmt::Write>(&self, f: &mut fmt::Formatter<W>) -> fmt::Result {
-        // a number past the last has the last one's name
-        let number = self.number.min(11);
-        let name = RESULTS[usize::from(number)];
+        // a number past the last is shown as the last
+        let result = RESULTS[usize::from(self.number.min(11))];
         let asked = Message {
             frame: self.frame,
             load: self.load,
         };
         let reply = Hex(self.reply);
         let read = self.read;
-        write!(f, "{number} {name}{asked} | reply{reply} | read {read}")
+        write!(f, "{result}{asked} | reply{reply} | read {read}")
     }
 }
 
-// The results by the paper's numbers: nine of a module alone, twelve of a class.
+// The results by the paper's numbers, which stand before their names: nine of a module alone, twelve of a class.
 pub(crate) const RESULTS: [&str; 12] = [
-    "carried out",
-    "bad length",
-    "unfit link memory",
-    "not for us",
-    "bad checksum",
-    "no room",
-    "not linked",
-    "not listed",
-    "no concern of ours",
-    "two of one address",
-    "nobody's address",
-    "unfit row",
+    "0 carried out",
+    "1 bad length",
+    "2 unfit link memory",
+    "3 not for us",
+    "4 bad checksum",
+    "5 no room",
+    "6 not linked",
+    "7 not listed",
+    "8 no concern of ours",
+    "9 two of one address",
+    "10 nobody's address",
+    "11 unfit row",
 ];
+
+// A seat of a class, and what its load is at, behind what was heard.
+#[derive(Clone, Copy)]
+pub struct Seat {
+    pub seat: u64,
+    pub load: LoadShown,
+}
+
+impl fmt::Display for Seat {
+    fn fmt<W: fmt::Write>(&self, f: &mut fmt::Formatter<W>) -> fmt::Result {
+        let seat = self.seat;
+        let load = self.load;
+        write!(f, " | seat {seat} | {load}")
+    }
+}
 
 // The message behind the frame's two bytes; nothing where there is no whole one.
 #[derive(Clone, Copy)]

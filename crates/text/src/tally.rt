@@ -18,8 +18,8 @@ pub struct ByResult<'a>(pub &'a [u64]);
 
 impl fmt::Display for ByResult<'_> {
     fn fmt<W: fmt::Write>(&self, f: &mut fmt::Formatter<W>) -> fmt::Result {
-        for (number, (name, count)) in RESULTS.iter().zip(self.0).enumerate() {
-            writeln!(f, "{number} {name}: {count}")?;
+        for (result, count) in RESULTS.iter().zip(self.0) {
+            writeln!(f, "{result}: {count}")?;
         }
         Ok(())
     }

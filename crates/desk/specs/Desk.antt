@@ -8,6 +8,7 @@ use Rattle.modem.specs.Frames.{framed}
 use Rattle.modem.specs.Serve.{heeded_of}
 use Rattle.modem.specs.Stream.{call_in}
 use Rattle.desk.specs.declared.answer.Desk.{Desk}
+use Rattle.desk.specs.declared.answer.Left.{Left}
 use Rattle.text.specs.declared.tally.Tally.{Tally}
 use Rattle.desk.specs.Tally.{counted}
 
@@ -22,6 +23,13 @@ blank_tally = record { results = replicate 12 0; seats = replicate 16 0; every =
 -- nothing has been served, and a frame may come
 abbrev pub fresh_desk : Seating → Desk
 fresh_desk seating = record { seating = seating; tally = blank_tally; is_open = true }
+
+abbrev pub open_with : Seating → Tally → Desk
+open_with seating tally = record { seating = seating; tally = tally; is_open = true }
+
+-- what a frame leaves, with the counts beside it
+abbrev pub left_with : Left → Tally → Desk
+left_with left tally = record { seating = left.seating; tally = tally; is_open = left.is_open }
 
 abbrev pub closed_of : Desk → Desk
 closed_of desk = record { seating = desk.seating; tally = desk.tally; is_open = false }

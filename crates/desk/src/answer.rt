@@ -3,17 +3,17 @@ ghost use Rattle.std.specs.Prelude.{◌≡◌, ◌*◌, ◌<◌, length, true};
 ghost use Rattle.io.specs.Counts.{IsPrefixLen};
 ghost use Rattle.modem.specs.Frames.{framed};
 ghost use Rattle.desk.specs.Tally.{counted_at, counted_as};
-ghost use Rattle.desk.specs.Desk.{fresh_desk, closed_of, AnswerPromise, Handed};
+ghost use Rattle.desk.specs.Desk.{fresh_desk, closed_of, open_with, left_with, AnswerPromise, Handed};
 
 use crate::Show;
 use crate::said::say_failed;
-use letters::Line;
+use letters::put_text;
 use lines::counts::Counts;
 use lines::told::Told;
 use modem::serve::{Served, serve};
 use row::progress::Whom;
 use seating::heed::{Heeded, Seating};
-use std::fmt::{Display, Write};
+use std::fmt::Display;
 use std::io::Error;
 use text::tally::Tally;
 
@@ -84,58 +84,58 @@ impl<const ROOM: usize> Lent<'_, ROOM> {
     }
 }
 
+// Who sits there after a frame, and whether more are served.
+#[derive(Clone, Copy)]
+pub(crate) struct Left {
+    pub seating: Seating,
+    pub is_open: bool,
+}
+
 // Closed afterwards where the reply might not fit, or could not be told. No method of `Lent`: what `AnswerPromise` says of an `out` in
-// which it might not fit (`cramped`) could not be said of one that `fits`.
+// which it might not fit (`cramped`) could not be said of one that `fits`. The counts are lent apart from the seats, and counted where they
+// stand: in a desk by value they would be copied twice for each frame.
 pub(crate) fn answer(
     rt: HostRuntime,
     show: Show,
-    desk: Desk,
+    seating: Seating,
+    tally: &mut Tally,
     links: &mut [u8],
     frame: &[u8],
     room: &mut [u8],
     out: &mut [u8],
-) -> Desk
-    ensures { AnswerPromise desk links.old frame.now room.old out.old
-        result links.new }
+) -> Left
+    ensures { AnswerPromise (open_with seating tally.old) links.old frame.now room.old out.old
+        (left_with result tally.new) links.new }
 {
-    let Some(served) = serve(desk.seating, links, frame, room, out) else {
-        return closed(desk);
+    let Some(served) = serve(seating, links, frame, room, out) else {
+        return Left {
+            seating,
+            is_open: false,
+        };
     };
-    let after = answered(desk, served.heeded);
-    match tell(rt, show, frame, served, room, out) {
-        Ok(()) => after,
+    count_as(tally, served.heeded.number, served.heeded.whom);
+    let is_open = match tell(rt, show, frame, served, room, out) {
+        Ok(()) => true,
         Err(error) => {
             say_untold(rt, error);
-            closed(after)
+            false
         }
+    };
+    Left {
+        seating: served.heeded.next,
+        is_open,
     }
 }
 
-fn answered(desk: Desk, h: Heeded) -> Desk
-    ensures { result ≡ record {
-      seating = h.next;
-      tally = counted_as desk.tally h.number h.whom;
-      is_open = true;
-    } }
+fn count_as(tally: &mut Tally, number: u8, whom: Whom)
+    ensures { tally.new ≡ counted_as tally.old number whom }
 {
-    Desk {
-        seating: h.next,
-        tally: counted_as(desk.tally, h.number, h.whom),
-        is_open: true,
-    }
-}
-
-fn counted_as(before: Tally, number: u8, whom: Whom) -> Tally
-    ensures { result ≡ counted_as before number whom }
-{
-    let mut tally = before;
     count_at(&mut tally.results, usize::from(number));
     match whom {
         Whom::Seat(i) => count_at(&mut tally.seats, i),
         Whom::All => tally.every = tally.every.wrapping_add(1),
         Whom::Nobody => tally.nobody = tally.nobody.wrapping_add(1),
     }
-    tally
 }
 
 // A count that is full begins anew.
@@ -183,9 +183,8 @@ fn send(rt: HostRuntime, frames: &[u8], reply: &[u8]) -> Result<(), Error>
 
 // In one write. A line refuses no text: what no longer fits is left out.
 fn write_text<T: Display + Drop>(rt: HostRuntime, text: T, out: &mut [u8]) -> Result<(), Error> {
-    let mut line = Line::new(out);
-    let _ = write!(line, "{text}");
-    write_out(rt, line.laid())
+    let n = put_text(out, 0, text);
+    write_out(rt, &out[..n])
 }
 
 fn write_out(rt: HostRuntime, bytes: &[u8]) -> Result<(), Error> {

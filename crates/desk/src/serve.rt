@@ -81,9 +81,18 @@ impl<const ROOM: usize> Lent<'_, ROOM> {
                 Seen::Whole(k, n) => {
                     let end = k + n;
                     let frame = &arrived[k..end];
-                    desk = answer(
-                        self.rt, self.show, desk, self.links, frame, self.room, self.out,
+                    let left = answer(
+                        self.rt,
+                        self.show,
+                        desk.seating,
+                        &mut desk.tally,
+                        self.links,
+                        frame,
+                        self.room,
+                        self.out,
                     );
+                    desk.seating = left.seating;
+                    desk.is_open = left.is_open;
                     used = end;
                 }
             }

@@ -12,10 +12,10 @@ loop-desk-preserved _ c =
     let frame = c.in-Whole in
     let one-frame : frame.k + frame.n - frame.k ≡ frame.n = omega arith in
     let ample : 2 * length at.self.room.now < length at.self.out.now = omega (arith, at.self.room_size, at.self.fits) in
-    let served = rw one-frame at (c.answer-desk.ensures.served ample) in
+    let told = rw one-frame at (c.answer-left.ensures.served ample) in
     record {
       inside = omega (arith, lies at.used c.args.arrived.now _ _ frame.ensures at.invariant.inside);
       passed =
           one_more at.invariant.passed at.invariant.inside at.self.room.now
-          (at.self.room_size ∙ sym c.args.self.now.room_size) frame.ensures served;
+          (at.self.room_size ∙ sym c.args.self.now.room_size) frame.ensures (record { state = told.state; tally = told.tally });
     }

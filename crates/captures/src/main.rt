@@ -13,6 +13,8 @@
 // The names are flags, led, house, unit and delta; level, ramp and on-level of a dimmer; top and bottom, 01 on or 00 off, of an outlet.
 #![tactic(auto)]
 
+ghost use Rattle.std.specs.Prelude.{◌≤◌, length};
+
 mod board;
 mod compare;
 mod tally;
@@ -32,7 +34,9 @@ fn main(rt: HostRuntime) {
 
 // Standard input, as far as there is room, and as far as it can be read.
 // The loop stays a `while`: each read says how far it came, and one that fails ends the text and loses none of it.
-fn read_full(rt: HostRuntime, room: &mut [u8]) -> &[u8] {
+fn read_full(rt: HostRuntime, room: &mut [u8]) -> &[u8]
+    ensures { length result.now ≤ length room.old }
+{
     let mut n: usize = 0;
     while n < room.len() {
         match rt.stdin().read(&mut room[n..]) {

@@ -1,12 +1,11 @@
 -- What a step leaves: as many bytes of link memory, and of a broadcast the room as it was.
 use Prim.Native.Nat.{ℕ, zero-le}
-use Rattle.std.specs.Prelude.{Option, Some, None}
+use Rattle.std.specs.Prelude.{Option, Some, None, Result, Ok, Err}
 use mathlib.Core.Path.{◌≡◌, refl}
 use mathlib.Core.Bool.{true}
-use mathlib.Core.List.{List}
+use mathlib.Core.List.{List, []}
 use lib.ListN.{length, take, drop}
 use borrow.Author.Tests.{le-ltb}
-use Rattle.std.specs.Prelude.{Result, Ok, Err}
 use Rattle.basis.specs.Choice.{choose}
 use Rattle.basis.proofs.Choice.{either}
 use Rattle.wire.specs.declared.command.GroupCommand.{GroupCommand}
@@ -25,7 +24,6 @@ use Rattle.links.proofs.Written.{length_kept}
 use Rattle.reply.specs.declared.due.Due.{Due}
 use Rattle.load.specs.declared.state.Load.{Load}
 use Rattle.module.specs.declared.state.Module.{Module}
-use Rattle.std.specs.Prelude.{Option, Some, None}
 use Rattle.module.specs.declared.deed.Write.{Write}
 use Rattle.decide.specs.declared.rule.Ruling.{Ruling}
 use Rattle.decide.specs.Dispatch.{group_deed_by}
@@ -70,6 +68,10 @@ module _ (m : Module) (l s room : List ℕ) (b : is_broadcast s ≡ true) where
   nothing_due : (ruling_of m l s).plan.due ≡ Due.Nothing
   unfolding ruling_by
   nothing_due = either (λ (r : Ruling). r.plan.due ≡ Due.Nothing) (is_fit l) heard_quiet refl
+
+  pub no_reply : (step_of m l s room).reply ≡ []
+  unfolding choose
+  no_reply = rw (nothing_due, le-ltb (length room) 0 zero-le)
 
   pub same_room : (step_of m l s room).room ≡ room
   unfolding choose

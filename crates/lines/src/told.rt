@@ -8,6 +8,7 @@ use names::LoadShown;
 use row::progress::Whom;
 use seating::heed::{Heeded, Seating};
 use std::fmt;
+use std::fmt::Display;
 use text::line::{Heard, Seat};
 
 // A line: what was heard, and what the load is at, in a class that of the seat that it was for, or of every one.
@@ -49,7 +50,7 @@ fn write_seats<W: fmt::Write>(
                 seat: i as u64 + 1,
                 load: load_shown(m.load),
             };
-            write!(f, "{shown}")?;
+            shown.fmt(f)?;
         }
     }
     Ok(())

@@ -4,6 +4,7 @@
 
 use letters::Hex;
 use std::fmt;
+use std::fmt::Display;
 use wire::command::{Command, Extended, GroupCommand, ModuleCommand, OpenCommand, Standard};
 use wire::kind::MessageKind;
 
@@ -18,7 +19,10 @@ pub enum LoadShown {
 impl fmt::Display for LoadShown {
     fn fmt<W: fmt::Write>(&self, f: &mut fmt::Formatter<W>) -> fmt::Result {
         match *self {
-            LoadShown::Level(level) => write!(f, "level{}", Hex(&[level])),
+            LoadShown::Level(level) => {
+                f.write_str("level")?;
+                Hex(&[level]).fmt(f)
+            }
             LoadShown::Sockets(top, bottom) => {
                 write!(f, "top {}, bottom {}", switch(top), switch(bottom))
             }

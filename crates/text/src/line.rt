@@ -2,6 +2,7 @@
 use letters::Hex;
 use names::{Asked, KindShown, LoadShown};
 use std::fmt;
+use std::fmt::Display;
 use wire::read::heard_as;
 
 // What came of a frame: its result by the paper's number, its message, the reply, and how many records were read for it. The command is
@@ -54,9 +55,10 @@ pub struct Seat {
 
 impl fmt::Display for Seat {
     fn fmt<W: fmt::Write>(&self, f: &mut fmt::Formatter<W>) -> fmt::Result {
-        let seat = self.seat;
-        let load = self.load;
-        write!(f, " | seat {seat} | {load}")
+        f.write_str(" | seat ")?;
+        self.seat.fmt(f)?;
+        f.write_str(" | ")?;
+        self.load.fmt(f)
     }
 }
 
